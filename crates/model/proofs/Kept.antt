@@ -1,0 +1,366 @@
+-- 000, Theorem 1: an event leaves a valid state valid, whatever the policy. Assumes nothing.
+use Prim.Native.Nat.{ℕ, zero, suc, _<_}
+use native.Mathlib.Omega.{arith}
+use mathlib.Core.Path.{_≡_, refl, sym, ap, _∙_}
+use mathlib.Core.Bool.{Bool, true, false, not, _&&_, _||_, cond, false≢true, true≢false, or-true}
+use mathlib.Core.List.{List, [], _∷_}
+use lib.ListN.{length, replicate}
+use lib.Dec.{eqb}
+use borrow.Author.Tests.{eqb-true, eq-eqb, ne-eqb, ltb-true, ltb-false, not-true, not-false}
+use Rattle.words.proofs.Sets.{member-none}
+use Rattle.words.proofs.Search.{firstFrom-none}
+use Rattle.model.specs.declared.Suite.{Suite}
+use Rattle.model.specs.declared.Permission.{Permission}
+use Rattle.model.specs.declared.Domain.{Domain}
+use Rattle.model.specs.declared.Mode.{Mode}
+use Rattle.model.specs.declared.Mode.the-variants.{Oneshot as oneshot, Session as session, Blanket as blanket}
+use Rattle.model.specs.declared.UserAnswer.{UserAnswer}
+use Rattle.model.specs.declared.UserAnswer.the-variants.{None, Allow, Deny}
+use Rattle.model.specs.declared.Descriptor.{Descriptor}
+use Rattle.model.specs.declared.Decisions.{Decisions}
+use Rattle.model.specs.declared.Slot.{Slot}
+use Rattle.model.specs.declared.Session.{Session}
+use Rattle.model.specs.declared.Event.{Event}
+use Rattle.model.specs.declared.Event.the-variants.{Unreadable, Install, Remove, Start, Terminate, Request}
+use Rattle.model.specs.declared.Response.{Response}
+use Rattle.model.specs.Device.{isPermission, isDomain, isSuite, isSet, noSuite, same, has, every, lowest, slotCount}
+use Rattle.model.specs.Policy.{Fixed, offered}
+use Rattle.model.specs.State.{State, new, withSession, withSlots, undecided, free, idle, carries, find, amend}
+use Rattle.model.specs.Valid.{_⇒_, declared, fits, installable, slotSound, among, ownNumber, slotDecided}
+use Rattle.model.specs.Valid.{slotValid, slotsValid, sessionSound, fitsBeside, sessionDecided, sessionValid, valid}
+use Rattle.model.specs.Events.{carried, eventIn, equal, writeEvent, readEvent}
+use Rattle.model.specs.Answers.{refused}
+use Rattle.model.specs.Decision.{standing, given, grant, revoke}
+use Rattle.model.specs.Step.{Outcome, answer, running, lacking, installed, runningSlot, judged, sessionDeciding, slotDeciding, keep, enter, request, step}
+use Rattle.model.specs.Run.{after}
+use Rattle.model.proofs.Tests.{both, all-three, cases, same-sym, every-all}
+use Rattle.model.proofs.Slots.{same-suite, find-suite, length-amend, carries-deciding, find-deciding, carries-put, find-put}
+use Rattle.model.proofs.Entering.{Taken, taken, Undecided, none-stands, Enters, grant-enters, revoke-enters, session-enters, slot-enters, slot-enters-beside}
+use Rattle.model.specs.Calls.{eventsFrom}
+
+-- ---- the slots stay valid
+
+-- the number of a slot against the lower ones: more of them on both sides, another one in place of the first, one more
+own-more : (a b u v : Bool) → ((a || not u) ≡ true → (a || not v) ≡ true) → (a || not (b || u)) ≡ true → (a || not (b || v)) ≡ true
+own-more true b u v h e = refl
+own-more false true u v h e = e
+own-more false false u v h e = h e
+
+own-swap : (a b c u : Bool) → (c ≡ true → a ≡ true) → (a || not (b || u)) ≡ true → (a || not (c || u)) ≡ true
+own-swap true b c u h e = refl
+own-swap false b true u h e = absurd (false≢true (h refl))
+own-swap false true false u h e = absurd (false≢true e)
+own-swap false false false u h e = e
+
+own-new : (a b u : Bool) → (b ≡ true → a ≡ true) → (a || not u) ≡ true → (a || not (b || u)) ≡ true
+own-new true b u h e = refl
+own-new false true u h e = h refl
+own-new false false u h e = e
+
+record SlotIs (f : Fixed) (lower : List Suite) (x : Slot) (xs : List Slot) : Type 0 where
+  sound : slotSound f x ≡ true
+  own : ownNumber lower (x .suite) ≡ true
+  decided : slotDecided f x ≡ true
+  more : slotsValid f (x .suite ∷ lower) xs ≡ true
+
+module _ (f : Fixed) where
+  taken-apart : (lower : List Suite) (x : Slot) (xs : List Slot) → slotsValid f lower (x ∷ xs) ≡ true → SlotIs f lower x xs
+  unfolding slotsValid slotValid
+  taken-apart lower x xs h =
+      let (here, more) = both _ _ h in
+      let (sound, own, decided) = all-three _ _ _ here in
+      record { sound = sound; own = own; decided = decided; more = more }
+
+  put-together : (lower : List Suite) (x : Slot) (xs : List Slot) → SlotIs f lower x xs → slotsValid f lower (x ∷ xs) ≡ true
+  unfolding slotsValid slotValid
+  put-together lower x xs k = rw (k .sound, k .own, k .decided, k .more)
+
+  -- other numbers in the lower slots
+  other-lower : (lower lower' : List Suite) (l : List Slot)
+      → ((j : Suite) → carries j l ≡ true → ownNumber lower j ≡ true → ownNumber lower' j ≡ true)
+      → slotsValid f lower l ≡ true → slotsValid f lower' l ≡ true
+  unfolding slotsValid carries among
+  other-lower lower lower' [] h v = refl
+  other-lower lower lower' (x ∷ xs) h v =
+      let k = taken-apart lower x xs v in
+      put-together lower' x xs (record {
+        sound = k .sound;
+        own = h (x .suite) (rw (eq-eqb (x .suite .0) (x .suite .0) refl)) (k .own);
+        decided = k .decided;
+        more = other-lower (x .suite ∷ lower) (x .suite ∷ lower') xs
+            (λ j t. own-more (same j noSuite) (same j (x .suite)) (among j lower) (among j lower') (h j (rw (t, or-true)))) (k .more);
+      })
+
+  -- the decisions of a slot change
+  record Keeps (g : Decisions → Decisions) (x : Slot) : Type 0 where
+    sound : slotSound f x ≡ true → slotSound f (slotDeciding g x) ≡ true
+    decided : slotDecided f x ≡ true → slotDecided f (slotDeciding g x) ≡ true
+
+  decide-slot : (i : Suite) (g : Decisions → Decisions) (lower : List Suite) (l : List Slot)
+      → slotsValid f lower l ≡ true → Keeps g (find i l) → slotsValid f lower (amend i (slotDeciding g) l) ≡ true
+  unfolding amend find
+  decide-slot i g lower [] v h = v
+  decide-slot i g lower (x ∷ xs) v h = go (same (x .suite) i) h (decide-slot i g (x .suite ∷ lower) xs)
+    where
+      k : SlotIs f lower x xs
+      k = taken-apart lower x xs v
+
+      go : (b : Bool) → Keeps g (cond b x (find i xs))
+          → (slotsValid f (x .suite ∷ lower) xs ≡ true → Keeps g (find i xs) → slotsValid f (x .suite ∷ lower) (amend i (slotDeciding g) xs) ≡ true)
+          → slotsValid f lower (cond b (slotDeciding g x ∷ xs) (x ∷ amend i (slotDeciding g) xs)) ≡ true
+      go true h r = put-together lower (slotDeciding g x) xs (record { sound = h .sound (k .sound); own = k .own; decided = h .decided (k .decided); more = k .more })
+      go false h r = put-together lower x (amend i (slotDeciding g) xs) (record { sound = k .sound; own = k .own; decided = k .decided; more = r (k .more) h })
+
+  -- another slot, whose number no slot has
+  put-slot : (i : Suite) (y : Slot) → slotSound f y ≡ true → slotDecided f y ≡ true → (lower : List Suite) (l : List Slot)
+      → slotsValid f lower l ≡ true → ownNumber lower (y .suite) ≡ true
+      → ((j : Suite) → carries j l ≡ true → same j (y .suite) ≡ true → same j noSuite ≡ true)
+      → slotsValid f lower (amend i (λ _. y) l) ≡ true
+  unfolding amend carries among
+  put-slot i y a b lower [] v n m = v
+  put-slot i y a b lower (x ∷ xs) v n m =
+      elim (same (x .suite) i) as (λ t. slotsValid f lower (cond t (y ∷ xs) (x ∷ amend i (λ _. y) xs)) ≡ true) [
+        | true ↦ put-together lower y xs (record {
+          sound = a;
+          own = n;
+          decided = b;
+          more = other-lower (x .suite ∷ lower) (y .suite ∷ lower) xs
+              (λ j t. own-swap (same j noSuite) (same j (x .suite)) (same j (y .suite)) (among j lower) (m j (rw (t, or-true)))) (k .more);
+        })
+        | false ↦ put-together lower x (amend i (λ _. y) xs) (record {
+          sound = k .sound;
+          own = k .own;
+          decided = k .decided;
+          more = put-slot i y a b (x .suite ∷ lower) xs (k .more)
+              (own-new (same (y .suite) noSuite) (same (y .suite) (x .suite)) (among (y .suite) lower) zero-too n) (λ j t. m j (rw (t, or-true)));
+        })
+      ]
+    where
+      k : SlotIs f lower x xs
+      k = taken-apart lower x xs v
+
+      zero-too : same (y .suite) (x .suite) ≡ true → same (y .suite) noSuite ≡ true
+      zero-too h =
+          let e = same-suite (y .suite) (x .suite) h in
+          rw e (m (x .suite) (rw (eq-eqb (x .suite .0) (x .suite .0) refl)) (rw e (eq-eqb (x .suite .0) (x .suite .0) refl)))
+
+-- ---- nothing is decided yet
+
+slot-undecided : (f : Fixed) (x : Slot) → x .decisions ≡ undecided → slotDecided f x ≡ true
+unfolding slotDecided declared
+slot-undecided f x e = rw e (every-all (fits f x blanket undecided) (λ p l. rw (member-none (p .0))))
+
+session-undecided : (f : Fixed) (i : Suite) (x : Slot) → sessionDecided f (record { suite = i; decisions = undecided }) x ≡ true
+unfolding sessionDecided
+session-undecided f i x = every-all (fitsBeside f x undecided) (λ p l. rw (member-none (p .0)))
+
+-- ---- an installed suite is right in itself
+
+sound-deciding : (f : Fixed) (g : Decisions → Decisions) (x : Slot) → same (x .suite) noSuite ≡ false → slotSound f x ≡ true → slotSound f (slotDeciding g x) ≡ true
+unfolding slotSound installable
+sound-deciding f g x n h = rw n (rw (n, slotSound) at h)
+
+none-lacking : (f : Fixed) (x : Descriptor) (d : Domain) → isPermission (lacking f x d) ≡ false → (p : Permission) → p .0 < 64
+    → (has (x .required) p ⇒ offered (f .cell d p)) ≡ true
+unfolding lacking lowest
+none-lacking f x d n p l =
+    let t : Permission → Bool = λ q. has (x .required) q && not (offered (f .cell d q)) in
+    let e = firstFrom-none (λ q. t (record { 0 = q })) 64 0 (p .0) (omega arith) (omega (arith, ltb-false (lacking f x d .0) 64 n)) in
+    go (has (x .required) p) (offered (f .cell d p)) e
+  where
+    go : (a b : Bool) → (a && not b) ≡ false → (a ⇒ b) ≡ true
+    go true true e = refl
+    go true false e = absurd (true≢false e)
+    go false b e = refl
+
+install-sound : (f : Fixed) (i : Suite) (x : Descriptor) (d : Domain) → carried (Install i x d) ≡ true → isPermission (lacking f x d) ≡ false
+    → slotSound f (installed i x d) ≡ true
+unfolding slotSound installable
+install-sound f i x d h n =
+    let (a, b, c) = all-three (isSuite i) (isSet (x .required)) _ h in
+    let (c, e) = both (isSet (x .optional)) (isDomain d) c in
+    let z = ltb-true 0 (i .0) (both _ _ a .0) in
+    rw (ne-eqb (i .0) 0 (λ k. omega arith), a, e, b, c) (every-all _ (none-lacking f x d n))
+
+-- ---- the theorem
+
+module _ (f : Fixed) (s : State) (v : valid f s ≡ true) where
+  record Holds : Type 0 where
+    count : eqb (length (s .slots)) slotCount ≡ true
+    slots : slotsValid f [] (s .slots) ≡ true
+    sound : sessionSound s ≡ true
+    decided : sessionDecided f (s .session) (runningSlot s) ≡ true
+
+  holds : Holds
+  unfolding valid sessionValid
+  holds =
+      let (count, slots, both-right) = all-three _ _ _ v in
+      let (sound, decided) = both (sessionSound s) (sessionDecided f (s .session) (runningSlot s)) both-right in
+      record { count = count; slots = slots; sound = sound; decided = decided }
+
+  is-installed : running s ≡ true → carries (s .session .suite) (s .slots) ≡ true
+  unfolding sessionSound
+  is-installed run = rw (not-true (same (s .session .suite) noSuite) run, sessionSound) at (holds .sound)
+
+  another-session : (r : Session) → sessionValid f (withSession r s) ≡ true → valid f (withSession r s) ≡ true
+  unfolding valid
+  another-session r h = rw (holds .count, holds .slots, h)
+
+  -- other slots, in which the running suite has a slot as right as its own
+  other-slots : (l : List Slot) → length l ≡ length (s .slots) → slotsValid f [] l ≡ true
+      → (running s ≡ true → (carries (s .session .suite) l ≡ true) × (sessionDecided f (s .session) (find (s .session .suite) l) ≡ true))
+      → valid f (withSlots l s) ≡ true
+  unfolding valid sessionValid sessionSound
+  other-slots l e h k = rw (e, holds .count, h) (go (same (s .session .suite) noSuite) refl)
+    where
+      zero : (d : Decisions) → (eqb (d .granted) 0 && eqb (d .revoked) 0) ≡ true → d ≡ undecided
+      zero d t =
+          let (a, b) = both (eqb (d .granted) 0) (eqb (d .revoked) 0) t in
+          λ i. record { granted = eqb-true (d .granted) 0 a i; revoked = eqb-true (d .revoked) 0 b i }
+
+      go : (b : Bool) → same (s .session .suite) noSuite ≡ b
+          → (cond b (eqb (s .session .decisions .granted) 0 && eqb (s .session .decisions .revoked) 0) (carries (s .session .suite) l)
+          && sessionDecided f (s .session) (find (s .session .suite) l)) ≡ true
+      go true t =
+          let none = rw (t, sessionSound) at (holds .sound) in
+          rw (none, zero (s .session .decisions) none) (session-undecided f (s .session .suite) (find (s .session .suite) l))
+      go false t = rw (k (rw t) .0, k (rw t) .1)
+
+  -- slot y, with nothing decided, in place of the first slot with number i, which does not run
+  another-slot : (i : Suite) (y : Slot) → slotSound f y ≡ true → y .decisions ≡ undecided
+      → ((j : Suite) → carries j (s .slots) ≡ true → same j (y .suite) ≡ true → same j noSuite ≡ true)
+      → (running s ≡ true → (same i (s .session .suite) ≡ false) × (same (y .suite) (s .session .suite) ≡ false))
+      → valid f (withSlots (amend i (λ _. y) (s .slots)) s) ≡ true
+  unfolding among
+  another-slot i y a d n m =
+      other-slots (amend i (λ _. y) (s .slots)) (length-amend i (λ _. y) (s .slots))
+      (put-slot f i y a (slot-undecided f y d) [] (s .slots) (holds .slots) (or-true (same (y .suite) noSuite)) n)
+      (λ t. (
+        carries-put i (s .session .suite) y (m t .0) (m t .1) (s .slots) ∙ is-installed t,
+        rw (find-put i (s .session .suite) y (m t .0) (m t .1) (s .slots)) (holds .decided),
+      ))
+
+  started : (i : Suite) → carries i (s .slots) ≡ true → sessionValid f (withSession (record { suite = i; decisions = undecided }) s) ≡ true
+  unfolding sessionValid sessionSound
+  started i h = rw (session-undecided f i (find i (s .slots))) (go (same i noSuite))
+    where
+      go : (b : Bool) → (cond b true (carries i (s .slots)) && true) ≡ true
+      go true = refl
+      go false = rw h
+
+  stopped : sessionValid f (withSession idle s) ≡ true
+  unfolding sessionValid sessionSound
+  stopped = session-undecided f noSuite (find noSuite (s .slots))
+
+  goes-on : running s ≡ true → (g : Decisions → Decisions) → sessionDecided f (sessionDeciding g (s .session)) (runningSlot s) ≡ true
+      → sessionValid f (withSession (sessionDeciding g (s .session)) s) ≡ true
+  unfolding sessionValid sessionSound
+  goes-on run g h = rw (not-true (same (s .session .suite) noSuite) run, is-installed run, h)
+
+  -- ---- a request
+
+  module _ (run : running s ≡ true) (p : Permission) (u : UserAnswer) (is : isPermission p ≡ true)
+      (accepted : refused (judged f (s .session) (runningSlot s) p u) ≡ false) (answered : given u ≡ true) where
+    abbrev me : Slot
+    me = runningSlot s
+
+    facts : Taken (declared me p) (f .cell (me .domain) p) (standing p (s .session .decisions) (me .decisions)) u
+    unfolding judged
+    facts = taken (declared me p) (f .cell (me .domain) p) (standing p (s .session .decisions) (me .decisions)) u answered accepted
+
+    clear : Undecided p (s .session .decisions) (me .decisions)
+    clear = none-stands p (s .session .decisions) (me .decisions) (facts .nothing)
+
+    -- the answer is kept as long as m says
+    kept-as : (m : Mode) (g : Decisions → Decisions) → Enters p m (declared me p) (f .cell (me .domain) p) g → valid f (keep m g s) ≡ true
+    kept-as oneshot g e = v
+    kept-as session g e = another-session (sessionDeciding g (s .session)) (goes-on run g (session-enters f (s .session) me p g clear e (holds .decided)))
+    kept-as blanket g e =
+        let there = is-installed run in
+        let number : same (me .suite) noSuite ≡ false = rw (find-suite (s .session .suite) (s .slots) there) (not-true _ run) in
+        other-slots (amend (s .session .suite) (slotDeciding g) (s .slots)) (length-amend (s .session .suite) (slotDeciding g) (s .slots))
+        (decide-slot f (s .session .suite) g [] (s .slots) (holds .slots)
+        (record { sound = sound-deciding f g me number; decided = slot-enters f (s .session) me p g clear e }))
+        (λ t. (
+          carries-deciding g (s .session .suite) (s .session .suite) (s .slots) ∙ there,
+          rw (find-deciding g (s .session .suite) (s .slots) there) (slot-enters-beside f (s .session) me p g clear e (holds .decided)),
+        ))
+
+  entered : (run : running s ≡ true) (p : Permission) (u : UserAnswer) → isPermission p ≡ true
+      → refused (judged f (s .session) (runningSlot s) p u) ≡ false → valid f (enter u p s) ≡ true
+  entered run p None is h = v
+  entered run p (Allow m) is h =
+      let k = facts run p (Allow m) is h refl in
+      kept-as run p (Allow m) is h refl m (grant p) (grant-enters p m _ _ is (k .declared) (not-false _ (k .fits)))
+  entered run p (Deny m) is h =
+      let k = facts run p (Deny m) is h refl in
+      kept-as run p (Deny m) is h refl m (revoke p) (revoke-enters p m _ _ is (k .declared) (k .asked))
+
+  record Valid (o : Outcome) : Type 0 where
+    ok : valid f (o .state) ≡ true
+
+  stays : {r : Response} → Valid (answer r s)
+  stays = record { ok = v }
+
+  event-kept : (e : Event) → carried e ≡ true → Valid (step f s e)
+  unfolding step request
+  event-kept Unreadable h = stays
+  event-kept (Install i x d) h =
+      cases Valid (carries i (s .slots)) (λ _. stays)
+      (λ new. cases Valid (isPermission (lacking f x d)) (λ _. stays)
+      (λ offers. cases Valid (not (carries noSuite (s .slots))) (λ _. stays)
+      (λ room. record {
+        ok = another-slot noSuite (installed i x d) (install-sound f i x d h offers) refl
+            (λ j t e. absurd (false≢true (sym new ∙ (rw (same-suite j i e) at t))))
+            (λ t. (
+              same-sym (s .session .suite) noSuite (not-true _ t),
+              ne-eqb (i .0) (s .session .suite .0) (λ e. false≢true (sym new ∙ ap (λ k. carries (record { 0 = k }) (s .slots)) e ∙ is-installed t)),
+            ));
+      })))
+  event-kept (Remove i) h =
+      cases Valid (not (carries i (s .slots))) (λ _. stays)
+      (λ there. cases Valid (same (s .session .suite) i) (λ _. stays)
+      (λ other. record {
+        ok = another-slot i free (unfold slotSound in refl) refl (λ j t e. e)
+            (λ t. (same-sym (s .session .suite) i other, same-sym (s .session .suite) noSuite (not-true _ t)));
+      }))
+  event-kept (Start i) h =
+      cases Valid (running s) (λ _. stays)
+      (λ idle. cases Valid (not (carries i (s .slots))) (λ _. stays)
+      (λ there. record { ok = another-session (record { suite = i; decisions = undecided }) (started i (not-false _ there)) }))
+  event-kept Terminate h =
+      cases Valid (not (running s)) (λ _. stays)
+      (λ run. record { ok = another-session idle stopped })
+  event-kept (Request p u) h =
+      cases Valid (not (running s)) (λ _. stays)
+      (λ run. cases Valid (refused (judged f (s .session) (runningSlot s) p u)) (λ _. stays)
+      (λ accepted. record { ok = entered (not-false _ run) p u h accepted }))
+
+-- ---- every event, every record of bytes, every run
+
+pub kept : (f : Fixed) (s : State) → valid f s ≡ true → (e : Event) → carried e ≡ true → valid f (step f s e .state) ≡ true
+kept f s v e c = event-kept f s v e c .ok
+
+pub record-kept : (f : Fixed) (s : State) → valid f s ≡ true → (b : List ℕ) → valid f (step f s (readEvent b) .state) ≡ true
+unfolding readEvent step
+record-kept f s v b = go (carried (eventIn b)) (equal (writeEvent (eventIn b)) b) refl
+  where
+    go : (c t : Bool) → carried (eventIn b) ≡ c → valid f (step f s (cond (c && t) (eventIn b) Unreadable) .state) ≡ true
+    go true true h = kept f s v (eventIn b) h
+    go true false h = v
+    go false t h = v
+
+pub run-kept : (f : Fixed) (s : State) → valid f s ≡ true → (b : List ℕ) (n i : ℕ) → valid f (after f s (eventsFrom b n i)) ≡ true
+unfolding after eventsFrom
+run-kept f s v b zero i = v
+run-kept f s v b (suc n) i = run-kept f _ (record-kept f s v _) b n (suc i)
+
+-- a new state is valid under every policy
+free-slots : (f : Fixed) (lower : List Suite) (n : ℕ) → slotsValid f lower (replicate n free) ≡ true
+unfolding slotsValid slotValid slotSound
+free-slots f lower zero = refl
+free-slots f lower (suc n) = rw (slot-undecided f free refl) (free-slots f (noSuite ∷ lower) n)
+
+pub new-valid : (f : Fixed) → valid f new ≡ true
+unfolding valid sessionValid sessionSound
+new-valid f = rw (free-slots f [] slotCount) (session-undecided f noSuite (find noSuite (new .slots)))

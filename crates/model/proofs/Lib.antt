@@ -1,0 +1,9 @@
+pub mod Tests
+pub mod Modes
+pub mod Slots
+pub mod Entering
+pub mod Kept
+pub mod Runs
+pub mod Worked
+pub mod Listing
+pub mod Cases

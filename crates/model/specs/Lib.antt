@@ -1,0 +1,10 @@
+pub mod Device
+pub mod Policy
+pub mod State
+pub mod Valid
+pub mod Events
+pub mod Answers
+pub mod Decision
+pub mod Step
+pub mod Run
+pub mod Calls

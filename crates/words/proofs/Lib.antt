@@ -1,0 +1,4 @@
+pub mod Numbers
+pub mod Stores
+pub mod Sets
+pub mod Search
