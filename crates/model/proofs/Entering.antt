@@ -1,4 +1,4 @@
--- An answer of the user is entered only where it was asked for, and fits: what a decision makes known, and that the sets stay right.
+-- An answer of the user is entered only where it was asked for: what a decision makes known, and that the sets stay right.
 -- Assumes nothing.
 use Prim.Native.Nat.{ℕ, _^_}
 use mathlib.Core.Path.{_≡_, refl}
@@ -16,13 +16,13 @@ use Rattle.model.specs.declared.Standing.the-variants.{Nothing, Granted,
 use Rattle.model.specs.declared.Decisions.{Decisions}
 use Rattle.model.specs.declared.Slot.{Slot}
 use Rattle.model.specs.declared.Session.{Session}
-use Rattle.model.specs.Device.{isPermission, isSet, has, every}
+use Rattle.model.specs.Device.{isPermission, isSet, has}
 use Rattle.model.specs.Policy.{Fixed, offered, unconditional, admits}
 use Rattle.model.specs.Valid.{declared, decides, fitting, fits, slotDecided}
 use Rattle.model.specs.Valid.{fitsBeside, sessionDecided}
 use Rattle.model.specs.Answers.{refused, NO-RIGHT, ANSWER-NOT-ASKED, MODE-TOO-WIDE, ALLOWED}
 use Rattle.model.specs.Decision.{standing, stands, given, tooWide, settled, decision, grant, revoke}
-use Rattle.model.specs.Step.{answer, sessionDeciding, slotDeciding}
+use Rattle.model.specs.Step.{sessionDeciding, slotDeciding}
 use Rattle.model.proofs.Tests.{all-three, three, every-but}
 use Rattle.model.proofs.Modes.{asked-cell}
 
@@ -35,13 +35,15 @@ pub record Taken (k : Bool) (c : ℕ) (w : Standing) (u : UserAnswer) : Type 0 w
   pub nothing : stands w ≡ false
   pub fits : tooWide c u ≡ false
 
-pub taken : (k : Bool) (c : ℕ) (w : Standing) (u : UserAnswer) → given u ≡ true → refused (decision k c w u) ≡ false → Taken k c w u
+pub taken : (k : Bool) (c : ℕ) (w : Standing) (u : UserAnswer)
+    → given u ≡ true → refused (decision k c w u) ≡ false → Taken k c w u
 unfolding decision
 taken false c w u g h = absurd (true≢false h)
 taken true c w u g h = go (offered c) (unconditional c) (stands w) (tooWide c u) (given u) refl refl refl refl g h
   where
     go : (o n t v a : Bool) → offered c ≡ o → unconditional c ≡ n → stands w ≡ t → tooWide c u ≡ v → a ≡ true
-        → refused (cond (not o) NO-RIGHT (cond (a && (n || t)) ANSWER-NOT-ASKED (cond (v && not t) (MODE-TOO-WIDE c) (cond n ALLOWED (settled c w u))))) ≡ false
+        → refused (cond (not o) NO-RIGHT (cond (a && (n || t)) ANSWER-NOT-ASKED
+        (cond (v && not t) (MODE-TOO-WIDE c) (cond n ALLOWED (settled c w u))))) ≡ false
         → Taken true c w u
     go false n t v a p q r s g h = absurd (true≢false h)
     go true n t v false p q r s g h = absurd (false≢true g)
@@ -73,8 +75,10 @@ none-stands p r x h = go (has (r .granted) p) (has (x .granted) p) (has (r .revo
 pub record Enters (p : Permission) (m : Mode) (k : Bool) (c : ℕ) (g : Decisions → Decisions) : Type 0 where
   pub apart : (d : Decisions) (q : Permission) → eqb (q .0) (p .0) ≡ false
       → (has (g d .granted) q ≡ has (d .granted) q) × (has (g d .revoked) q ≡ has (d .revoked) q)
-  pub here : (d : Decisions) → has (d .granted) p ≡ false → has (d .revoked) p ≡ false → fitting m k c (has (g d .granted) p) (has (g d .revoked) p) ≡ true
-  pub sized : (d : Decisions) → isSet (d .granted) ≡ true → isSet (d .revoked) ≡ true → (isSet (g d .granted) ≡ true) × (isSet (g d .revoked) ≡ true)
+  pub here : (d : Decisions) → has (d .granted) p ≡ false → has (d .revoked) p ≡ false
+      → fitting m k c (has (g d .granted) p) (has (g d .revoked) p) ≡ true
+  pub sized : (d : Decisions) → isSet (d .granted) ≡ true → isSet (d .revoked) ≡ true
+      → (isSet (g d .granted) ≡ true) × (isSet (g d .revoked) ≡ true)
 
 module _ (p : Permission) (m : Mode) (k : Bool) (c : ℕ) (is : isPermission p ≡ true) (dec : k ≡ true) where
   inserted : (s : ℕ) → has (insert s (p .0)) p ≡ true
@@ -83,34 +87,37 @@ module _ (p : Permission) (m : Mode) (k : Bool) (c : ℕ) (is : isPermission p �
   beside : (s : ℕ) (q : Permission) → eqb (q .0) (p .0) ≡ false → has (insert s (p .0)) q ≡ has s q
   beside s q n = rw (member-insert s (p .0) (q .0), n)
 
-  set : (s : ℕ) → isSet s ≡ true → isSet (insert s (p .0)) ≡ true
-  set s h = lt-ltb (insert s (p .0)) (2 ^ 64) (insert-lt 64 s (p .0) (ltb-true s (2 ^ 64) h) (ltb-true (p .0) 64 is))
+  stays-set : (s : ℕ) → isSet s ≡ true → isSet (insert s (p .0)) ≡ true
+  stays-set s h = lt-ltb (insert s (p .0)) (2 ^ 64) (insert-lt 64 s (p .0) (ltb-true s (2 ^ 64) h) (ltb-true (p .0) 64 is))
 
   pub grant-enters : admits c m ≡ true → Enters p m k c (grant p)
   grant-enters a = record {
     apart = λ d q n. (beside (d .granted) q n, refl);
     here = λ d h r. rw (inserted (d .granted), r, dec, a);
-    sized = λ d h r. (set (d .granted) h, r);
+    sized = λ d h r. (stays-set (d .granted) h, r);
   }
 
   pub revoke-enters : admits c oneshot ≡ true → Enters p m k c (revoke p)
   revoke-enters a = record {
     apart = λ d q n. (refl, beside (d .revoked) q n);
     here = λ d h r. rw (inserted (d .revoked), h, dec, a);
-    sized = λ d h r. (h, set (d .revoked) r);
+    sized = λ d h r. (h, stays-set (d .revoked) r);
   }
 
 -- ---- the decisions stay right
 
-module _ (f : Fixed) (r : Session) (x : Slot) (p : Permission) (g : Decisions → Decisions) (clear : Undecided p (r .decisions) (x .decisions)) where
+module _ (f : Fixed) (r : Session) (x : Slot) (p : Permission) (g : Decisions → Decisions)
+    (clear : Undecided p (r .decisions) (x .decisions)) where
   -- a session decision
-  pub session-enters : Enters p session (declared x p) (f .cell (x .domain) p) g → sessionDecided f r x ≡ true → sessionDecided f (sessionDeciding g r) x ≡ true
+  pub session-enters : Enters p session (declared x p) (f .cell (x .domain) p) g
+      → sessionDecided f r x ≡ true → sessionDecided f (sessionDeciding g r) x ≡ true
   unfolding sessionDecided
   session-enters e h =
       let (a, b, t) = all-three _ _ _ h in
       let (a', b') = e .sized (r .decisions) a b in
       three a' b' (every-but (fitsBeside f x (r .decisions)) (fitsBeside f x (g (r .decisions))) p t
-      (rw (e .here (r .decisions) (clear .now-granted) (clear .now-revoked), clear .kept-granted, clear .kept-revoked) (unmet (decides (g (r .decisions)) p)))
+      (rw (e .here (r .decisions) (clear .now-granted) (clear .now-revoked), clear .kept-granted, clear .kept-revoked)
+      (unmet (decides (g (r .decisions)) p)))
       (λ q n. rw (e .apart (r .decisions) q n .0, e .apart (r .decisions) q n .1)))
     where
       unmet : (b : Bool) → not (b && false) ≡ true

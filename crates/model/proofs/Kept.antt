@@ -23,10 +23,10 @@ use Rattle.model.specs.declared.Session.{Session}
 use Rattle.model.specs.declared.Event.{Event}
 use Rattle.model.specs.declared.Event.the-variants.{Unreadable, Install, Remove, Start, Terminate, Request}
 use Rattle.model.specs.declared.Response.{Response}
-use Rattle.model.specs.Device.{isPermission, isDomain, isSuite, isSet, noSuite, same, has, every, lowest, slotCount}
+use Rattle.model.specs.Device.{isPermission, isDomain, isSuite, isSet, noSuite, same, has, lowest, slotCount}
 use Rattle.model.specs.Policy.{Fixed, offered}
 use Rattle.model.specs.State.{State, new, withSession, withSlots, undecided, free, idle, carries, find, amend}
-use Rattle.model.specs.Valid.{_⇒_, declared, fits, installable, slotSound, among, ownNumber, slotDecided}
+use Rattle.model.specs.Valid.{_⇒_, declared, clear, fits, installable, slotSound, among, ownNumber, slotDecided}
 use Rattle.model.specs.Valid.{slotValid, slotsValid, sessionSound, fitsBeside, sessionDecided, sessionValid, valid}
 use Rattle.model.specs.Events.{carried, eventIn, equal, writeEvent, readEvent}
 use Rattle.model.specs.Answers.{refused}
@@ -41,7 +41,8 @@ use Rattle.model.specs.Calls.{eventsFrom}
 -- ---- the slots stay valid
 
 -- the number of a slot against the lower ones: more of them on both sides, another one in place of the first, one more
-own-more : (a b u v : Bool) → ((a || not u) ≡ true → (a || not v) ≡ true) → (a || not (b || u)) ≡ true → (a || not (b || v)) ≡ true
+own-more : (a b u v : Bool) → ((a || not u) ≡ true → (a || not v) ≡ true)
+    → (a || not (b || u)) ≡ true → (a || not (b || v)) ≡ true
 own-more true b u v h e = refl
 own-more false true u v h e = e
 own-more false false u v h e = h e
@@ -88,7 +89,8 @@ module _ (f : Fixed) where
         own = h (x .suite) (rw (eq-eqb (x .suite .0) (x .suite .0) refl)) (k .own);
         decided = k .decided;
         more = other-lower (x .suite ∷ lower) (x .suite ∷ lower') xs
-            (λ j t. own-more (same j noSuite) (same j (x .suite)) (among j lower) (among j lower') (h j (rw (t, or-true)))) (k .more);
+            (λ j t. own-more (same j noSuite) (same j (x .suite)) (among j lower) (among j lower') (h j (rw (t, or-true))))
+            (k .more);
       })
 
   -- the decisions of a slot change
@@ -106,10 +108,15 @@ module _ (f : Fixed) where
       k = taken-apart lower x xs v
 
       go : (b : Bool) → Keeps g (cond b x (find i xs))
-          → (slotsValid f (x .suite ∷ lower) xs ≡ true → Keeps g (find i xs) → slotsValid f (x .suite ∷ lower) (amend i (slotDeciding g) xs) ≡ true)
+          → (slotsValid f (x .suite ∷ lower) xs ≡ true → Keeps g (find i xs)
+          → slotsValid f (x .suite ∷ lower) (amend i (slotDeciding g) xs) ≡ true)
           → slotsValid f lower (cond b (slotDeciding g x ∷ xs) (x ∷ amend i (slotDeciding g) xs)) ≡ true
-      go true h r = put-together lower (slotDeciding g x) xs (record { sound = h .sound (k .sound); own = k .own; decided = h .decided (k .decided); more = k .more })
-      go false h r = put-together lower x (amend i (slotDeciding g) xs) (record { sound = k .sound; own = k .own; decided = k .decided; more = r (k .more) h })
+      go true h r =
+          put-together lower (slotDeciding g x) xs
+          (record { sound = h .sound (k .sound); own = k .own; decided = h .decided (k .decided); more = k .more })
+      go false h r =
+          put-together lower x (amend i (slotDeciding g) xs)
+          (record { sound = k .sound; own = k .own; decided = k .decided; more = r (k .more) h })
 
   -- another slot, whose number no slot has
   put-slot : (i : Suite) (y : Slot) → slotSound f y ≡ true → slotDecided f y ≡ true → (lower : List Suite) (l : List Slot)
@@ -125,14 +132,16 @@ module _ (f : Fixed) where
           own = n;
           decided = b;
           more = other-lower (x .suite ∷ lower) (y .suite ∷ lower) xs
-              (λ j t. own-swap (same j noSuite) (same j (x .suite)) (same j (y .suite)) (among j lower) (m j (rw (t, or-true)))) (k .more);
+              (λ j t. own-swap (same j noSuite) (same j (x .suite)) (same j (y .suite)) (among j lower) (m j (rw (t, or-true))))
+              (k .more);
         })
         | false ↦ put-together lower x (amend i (λ _. y) xs) (record {
           sound = k .sound;
           own = k .own;
           decided = k .decided;
           more = put-slot i y a b (x .suite ∷ lower) xs (k .more)
-              (own-new (same (y .suite) noSuite) (same (y .suite) (x .suite)) (among (y .suite) lower) zero-too n) (λ j t. m j (rw (t, or-true)));
+              (own-new (same (y .suite) noSuite) (same (y .suite) (x .suite)) (among (y .suite) lower) zero-too n)
+              (λ j t. m j (rw (t, or-true)));
         })
       ]
     where
@@ -156,7 +165,8 @@ session-undecided f i x = every-all (fitsBeside f x undecided) (λ p l. rw (memb
 
 -- ---- an installed suite is right in itself
 
-sound-deciding : (f : Fixed) (g : Decisions → Decisions) (x : Slot) → same (x .suite) noSuite ≡ false → slotSound f x ≡ true → slotSound f (slotDeciding g x) ≡ true
+sound-deciding : (f : Fixed) (g : Decisions → Decisions) (x : Slot) → same (x .suite) noSuite ≡ false
+    → slotSound f x ≡ true → slotSound f (slotDeciding g x) ≡ true
 unfolding slotSound installable
 sound-deciding f g x n h = rw n (rw (n, slotSound) at h)
 
@@ -165,7 +175,8 @@ none-lacking : (f : Fixed) (x : Descriptor) (d : Domain) → isPermission (lacki
 unfolding lacking lowest
 none-lacking f x d n p l =
     let t : Permission → Bool = λ q. has (x .required) q && not (offered (f .cell d q)) in
-    let e = firstFrom-none (λ q. t (record { 0 = q })) 64 0 (p .0) (omega arith) (omega (arith, ltb-false (lacking f x d .0) 64 n)) in
+    let above = ltb-false (lacking f x d .0) 64 n in
+    let e = firstFrom-none (λ q. t (record { 0 = q })) 64 0 (p .0) (omega arith) (omega arith) in
     go (has (x .required) p) (offered (f .cell d p)) e
   where
     go : (a b : Bool) → (a && not b) ≡ false → (a ⇒ b) ≡ true
@@ -173,8 +184,8 @@ none-lacking f x d n p l =
     go true false e = absurd (true≢false e)
     go false b e = refl
 
-install-sound : (f : Fixed) (i : Suite) (x : Descriptor) (d : Domain) → carried (Install i x d) ≡ true → isPermission (lacking f x d) ≡ false
-    → slotSound f (installed i x d) ≡ true
+install-sound : (f : Fixed) (i : Suite) (x : Descriptor) (d : Domain) → carried (Install i x d) ≡ true
+    → isPermission (lacking f x d) ≡ false → slotSound f (installed i x d) ≡ true
 unfolding slotSound installable
 install-sound f i x d h n =
     let (a, b, c) = all-three (isSuite i) (isSet (x .required)) _ h in
@@ -208,18 +219,19 @@ module _ (f : Fixed) (s : State) (v : valid f s ≡ true) where
 
   -- other slots, in which the running suite has a slot as right as its own
   other-slots : (l : List Slot) → length l ≡ length (s .slots) → slotsValid f [] l ≡ true
-      → (running s ≡ true → (carries (s .session .suite) l ≡ true) × (sessionDecided f (s .session) (find (s .session .suite) l) ≡ true))
+      → (running s ≡ true
+      → (carries (s .session .suite) l ≡ true) × (sessionDecided f (s .session) (find (s .session .suite) l) ≡ true))
       → valid f (withSlots l s) ≡ true
   unfolding valid sessionValid sessionSound
   other-slots l e h k = rw (e, holds .count, h) (go (same (s .session .suite) noSuite) refl)
     where
-      zero : (d : Decisions) → (eqb (d .granted) 0 && eqb (d .revoked) 0) ≡ true → d ≡ undecided
+      zero : (d : Decisions) → clear d ≡ true → d ≡ undecided
       zero d t =
           let (a, b) = both (eqb (d .granted) 0) (eqb (d .revoked) 0) t in
           λ i. record { granted = eqb-true (d .granted) 0 a i; revoked = eqb-true (d .revoked) 0 b i }
 
       go : (b : Bool) → same (s .session .suite) noSuite ≡ b
-          → (cond b (eqb (s .session .decisions .granted) 0 && eqb (s .session .decisions .revoked) 0) (carries (s .session .suite) l)
+          → (cond b (clear (s .session .decisions)) (carries (s .session .suite) l)
           && sessionDecided f (s .session) (find (s .session .suite) l)) ≡ true
       go true t =
           let none = rw (t, sessionSound) at (holds .sound) in
@@ -240,7 +252,8 @@ module _ (f : Fixed) (s : State) (v : valid f s ≡ true) where
         rw (find-put i (s .session .suite) y (m t .0) (m t .1) (s .slots)) (holds .decided),
       ))
 
-  started : (i : Suite) → carries i (s .slots) ≡ true → sessionValid f (withSession (record { suite = i; decisions = undecided }) s) ≡ true
+  started : (i : Suite) → carries i (s .slots) ≡ true
+      → sessionValid f (withSession (record { suite = i; decisions = undecided }) s) ≡ true
   unfolding sessionValid sessionSound
   started i h = rw (session-undecided f i (find i (s .slots))) (go (same i noSuite))
     where
@@ -252,7 +265,8 @@ module _ (f : Fixed) (s : State) (v : valid f s ≡ true) where
   unfolding sessionValid sessionSound
   stopped = session-undecided f noSuite (find noSuite (s .slots))
 
-  goes-on : running s ≡ true → (g : Decisions → Decisions) → sessionDecided f (sessionDeciding g (s .session)) (runningSlot s) ≡ true
+  goes-on : running s ≡ true → (g : Decisions → Decisions)
+      → sessionDecided f (sessionDeciding g (s .session)) (runningSlot s) ≡ true
       → sessionValid f (withSession (sessionDeciding g (s .session)) s) ≡ true
   unfolding sessionValid sessionSound
   goes-on run g h = rw (not-true (same (s .session .suite) noSuite) run, is-installed run, h)
@@ -266,24 +280,30 @@ module _ (f : Fixed) (s : State) (v : valid f s ≡ true) where
 
     facts : Taken (declared me p) (f .cell (me .domain) p) (standing p (s .session .decisions) (me .decisions)) u
     unfolding judged
-    facts = taken (declared me p) (f .cell (me .domain) p) (standing p (s .session .decisions) (me .decisions)) u answered accepted
+    facts =
+        taken (declared me p) (f .cell (me .domain) p) (standing p (s .session .decisions) (me .decisions)) u answered accepted
 
-    clear : Undecided p (s .session .decisions) (me .decisions)
-    clear = none-stands p (s .session .decisions) (me .decisions) (facts .nothing)
+    undecided-yet : Undecided p (s .session .decisions) (me .decisions)
+    undecided-yet = none-stands p (s .session .decisions) (me .decisions) (facts .nothing)
 
     -- the answer is kept as long as m says
-    kept-as : (m : Mode) (g : Decisions → Decisions) → Enters p m (declared me p) (f .cell (me .domain) p) g → valid f (keep m g s) ≡ true
+    kept-as : (m : Mode) (g : Decisions → Decisions) → Enters p m (declared me p) (f .cell (me .domain) p) g
+        → valid f (keep m g s) ≡ true
     kept-as oneshot g e = v
-    kept-as session g e = another-session (sessionDeciding g (s .session)) (goes-on run g (session-enters f (s .session) me p g clear e (holds .decided)))
+    kept-as session g e =
+        another-session (sessionDeciding g (s .session))
+        (goes-on run g (session-enters f (s .session) me p g undecided-yet e (holds .decided)))
     kept-as blanket g e =
         let there = is-installed run in
         let number : same (me .suite) noSuite ≡ false = rw (find-suite (s .session .suite) (s .slots) there) (not-true _ run) in
-        other-slots (amend (s .session .suite) (slotDeciding g) (s .slots)) (length-amend (s .session .suite) (slotDeciding g) (s .slots))
+        other-slots (amend (s .session .suite) (slotDeciding g) (s .slots))
+        (length-amend (s .session .suite) (slotDeciding g) (s .slots))
         (decide-slot f (s .session .suite) g [] (s .slots) (holds .slots)
-        (record { sound = sound-deciding f g me number; decided = slot-enters f (s .session) me p g clear e }))
+        (record { sound = sound-deciding f g me number; decided = slot-enters f (s .session) me p g undecided-yet e }))
         (λ t. (
           carries-deciding g (s .session .suite) (s .session .suite) (s .slots) ∙ there,
-          rw (find-deciding g (s .session .suite) (s .slots) there) (slot-enters-beside f (s .session) me p g clear e (holds .decided)),
+          rw (find-deciding g (s .session .suite) (s .slots) there)
+              (slot-enters-beside f (s .session) me p g undecided-yet e (holds .decided)),
         ))
 
   entered : (run : running s ≡ true) (p : Permission) (u : UserAnswer) → isPermission p ≡ true
@@ -314,7 +334,8 @@ module _ (f : Fixed) (s : State) (v : valid f s ≡ true) where
             (λ j t e. absurd (false≢true (sym new ∙ (rw (same-suite j i e) at t))))
             (λ t. (
               same-sym (s .session .suite) noSuite (not-true _ t),
-              ne-eqb (i .0) (s .session .suite .0) (λ e. false≢true (sym new ∙ ap (λ k. carries (record { 0 = k }) (s .slots)) e ∙ is-installed t)),
+              ne-eqb (i .0) (s .session .suite .0)
+                  (λ e. false≢true (sym new ∙ ap (λ k. carries (record { 0 = k }) (s .slots)) e ∙ is-installed t)),
             ));
       })))
   event-kept (Remove i) h =

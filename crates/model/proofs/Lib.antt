@@ -1,9 +1,11 @@
 pub mod Tests
 pub mod Modes
-pub mod Slots
-pub mod Entering
-pub mod Kept
-pub mod Runs
 pub mod Worked
 pub mod Listing
 pub mod Cases
+pub mod Edges
+pub mod Slots
+pub mod Entering
+pub mod Right
+pub mod Kept
+pub mod Runs

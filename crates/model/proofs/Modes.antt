@@ -2,7 +2,7 @@
 use Prim.Native.Nat.{ℕ, zero, suc, _≤_}
 use native.Mathlib.Omega.{arith}
 use mathlib.Core.Path.{_≡_, refl}
-use mathlib.Core.Bool.{Bool, true, false, true≢false, false≢true}
+use mathlib.Core.Bool.{true, false, true≢false, false≢true}
 use lib.Dec.{lit≤, leb}
 use borrow.Author.Tests.{leb-true}
 use Rattle.model.specs.declared.Mode.{Mode}
@@ -25,4 +25,5 @@ asked-cell (suc (suc zero)) o n = refl
 asked-cell (suc (suc (suc zero))) o n = refl
 asked-cell (suc (suc (suc (suc zero)))) o n = absurd (true≢false n)
 asked-cell (suc (suc (suc (suc (suc c))))) o n =
-    absurd (omega (arith, leb-true (suc (suc (suc (suc (suc c))))) 4 (both (leb 1 (suc (suc (suc (suc (suc c)))))) (leb (suc (suc (suc (suc (suc c))))) 4) o .1)))
+    let k = suc (suc (suc (suc (suc c)))) in
+    absurd (omega (arith, leb-true k 4 (both (leb 1 k) (leb k 4) o .1)))

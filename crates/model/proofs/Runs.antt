@@ -1,8 +1,7 @@
 -- A refused event leaves the state as it was; a run of some events and then others is the run of all; every state on the way is
 -- valid. Assumes nothing.
-use Prim.Native.Nat.{ℕ, zero, suc}
 use mathlib.Core.Path.{_≡_, refl, ap}
-use mathlib.Core.Bool.{Bool, true, false, not, cond, false≢true, true≢false}
+use mathlib.Core.Bool.{true, not, false≢true, true≢false}
 use mathlib.Core.List.{List, [], _∷_, _++_}
 use Rattle.model.specs.declared.Event.{Event}
 use Rattle.model.specs.declared.Event.the-variants.{Unreadable, Install, Remove, Start, Terminate, Request}
@@ -10,13 +9,10 @@ use Rattle.model.specs.declared.Response.{Response}
 use Rattle.model.specs.Device.{isPermission, noSuite, same}
 use Rattle.model.specs.Policy.{Fixed}
 use Rattle.model.specs.State.{State, carries}
-use Rattle.model.specs.Valid.{valid}
-use Rattle.model.specs.Events.{carried, eventIn, equal, writeEvent, readEvent}
 use Rattle.model.specs.Answers.{refused}
 use Rattle.model.specs.Step.{Outcome, answer, running, lacking, runningSlot, judged, request, step}
 use Rattle.model.specs.Run.{after, responses}
-use Rattle.model.specs.Calls.{eventsFrom}
-use Rattle.model.proofs.Tests.{both, cases}
+use Rattle.model.proofs.Tests.{cases}
 
 -- ---- refusals
 
@@ -58,7 +54,8 @@ unfolding after
 after-append f s [] b = refl
 after-append f s (e ∷ a) b = after-append f (step f s e .state) a b
 
-pub responses-append : (f : Fixed) (s : State) (a b : List Event) → responses f s (a ++ b) ≡ responses f s a ++ responses f (after f s a) b
+pub responses-append : (f : Fixed) (s : State) (a b : List Event)
+    → responses f s (a ++ b) ≡ responses f s a ++ responses f (after f s a) b
 unfolding after responses
 responses-append f s [] b = refl
 responses-append f s (e ∷ a) b = ap (λ rs. step f s e .response ∷ rs) (responses-append f (step f s e .state) a b)

@@ -1,11 +1,11 @@
 -- The slots by suite number: what an amended list carries and finds, and the place of each, by which code goes. Assumes nothing.
-use Prim.Native.Nat.{ℕ, zero, suc, _≤_, zero-le, suc-le-suc, compare·suc-suc}
+use Prim.Native.Nat.{suc, _≤_, zero-le, suc-le-suc, compare·suc-suc}
 use native.Mathlib.Nat.{zero-lt-suc}
-use mathlib.Core.Path.{_≡_, refl, sym, ap, _∙_}
+use mathlib.Core.Path.{_≡_, refl, sym, ap}
 use mathlib.Core.Bool.{Bool, true, false, _||_, cond, false≢true}
 use mathlib.Core.List.{List, [], _∷_}
 use lib.ListN.{length, getD, set}
-use lib.Dec.{eqb, ltb}
+use lib.Dec.{ltb}
 use borrow.Author.Tests.{eqb-true, lt-ltb}
 use Rattle.model.specs.declared.Suite.{Suite}
 use Rattle.model.specs.declared.Decisions.{Decisions}
@@ -56,7 +56,8 @@ pub place-le : (i : Suite) (l : List Slot) → place i l ≤ length l
 unfolding place
 place-le i [] = zero-le
 place-le i (x ∷ xs) =
-    elim (same (x .suite) i) as (λ b. cond b 0 (suc (place i xs)) ≤ suc (length xs)) [ true ↦ zero-le | false ↦ suc-le-suc (place-le i xs) ]
+    elim (same (x .suite) i) as (λ b. cond b 0 (suc (place i xs)) ≤ suc (length xs))
+    [ true ↦ zero-le | false ↦ suc-le-suc (place-le i xs) ]
 
 -- ---- a slot is amended
 
@@ -73,10 +74,12 @@ module _ (g : Decisions → Decisions) where
   unfolding amend carries
   carries-deciding i j [] = refl
   carries-deciding i j (x ∷ xs) =
-      elim (same (x .suite) i) as (λ b. carries j (cond b (slotDeciding g x ∷ xs) (x ∷ amend i (slotDeciding g) xs)) ≡ (same (x .suite) j || carries j xs))
+      elim (same (x .suite) i) as
+      (λ b. carries j (cond b (slotDeciding g x ∷ xs) (x ∷ amend i (slotDeciding g) xs)) ≡ (same (x .suite) j || carries j xs))
       [ true ↦ refl | false ↦ ap (λ t. same (x .suite) j || t) (carries-deciding i j xs) ]
 
-  pub find-deciding : (i : Suite) (l : List Slot) → carries i l ≡ true → find i (amend i (slotDeciding g) l) ≡ slotDeciding g (find i l)
+  pub find-deciding : (i : Suite) (l : List Slot) → carries i l ≡ true
+      → find i (amend i (slotDeciding g) l) ≡ slotDeciding g (find i l)
   unfolding amend carries find
   find-deciding i [] h = absurd (false≢true h)
   find-deciding i (x ∷ xs) h = go (same (x .suite) i) refl h (find-deciding i xs)

@@ -1,7 +1,7 @@
 -- 01, Calls offered: from the lists of the lent bytes to the answer, the count and the lists afterwards. A refusal leaves every
 -- list as it was.
-use Prim.Native.Nat.{ℕ, zero, suc, _+_, _*_, _/_, _%_}
-use mathlib.Core.Bool.{Bool, not, _&&_, cond}
+use Prim.Native.Nat.{ℕ, zero, suc, _*_, _/_, _%_}
+use mathlib.Core.Bool.{not, _&&_, cond}
 use mathlib.Core.List.{List, [], _∷_}
 use lib.ListN.{length, take, drop, replicate}
 use lib.Dec.{eqb}
@@ -76,6 +76,9 @@ eventsFrom b zero i = []
 eventsFrom b (suc n) i = readEvent (take eventSize (drop (eventSize * i) b)) ∷ eventsFrom b n (suc i)
 
 -- "an output of two bytes each, number then detail"
+abbrev pub answerSize : ℕ
+answerSize = 2
+
 unfoldable pub outputOf : List Response → List ℕ
 outputOf [] = []
 outputOf (r ∷ rs) = r .number ∷ r .detail ∷ outputOf rs
@@ -90,7 +93,7 @@ runCall policy b es out =
     let s = readState b in
     let events = eventsFrom es n 0 in
     cond (refused r) (unrun b out r)
-    (cond (not (eqb (length es % eventSize) 0 && eqb (length out) (2 * n))) (unrun b out BAD-LENGTH)
+    (cond (not (eqb (length es % eventSize) 0 && eqb (length out) (answerSize * n))) (unrun b out BAD-LENGTH)
     (record { response = DONE; count = n; state = writeState (after f s events); output = outputOf (responses f s events) }))
 
 -- "find, which answers with a number (16, 17, then 21; suite 0 gives 21)"

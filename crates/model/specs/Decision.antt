@@ -1,9 +1,9 @@
--- 01, What each event does: the decision on a request. 004, Figures 2.2 to 2.4, with three differences that 01 decides: an
+-- 01, What each event does: the decision on a request. 004, Figures 2.2 to 2.4, with four differences that 01 decides: an
 -- undeclared permission is refused (26) where 004 answers denied; one with cell 0 is refused (27) where 004 leaves the response
--- open; and cell 4 goes before a standing decision, where 004's algorithm looks at decisions first.
+-- open; cell 4 goes before a standing decision, where 004's algorithm looks at decisions first; and ASK is the answer where 000
+-- has a failed precondition and no response.
 use Prim.Native.Nat.{ℕ}
 use mathlib.Core.Bool.{Bool, true, false, not, _&&_, _||_, cond}
-use lib.Dec.{leb}
 use Rattle.words.specs.Sets.{insert}
 use Rattle.model.specs.declared.Permission.{Permission}
 use Rattle.model.specs.declared.UserAnswer.{UserAnswer}

@@ -5,7 +5,7 @@ use mathlib.Core.List.{List, [], _∷_, _++_}
 use lib.ListN.{getD}
 use lib.Dec.{eqb, leb}
 use Rattle.words.specs.Numbers.{leAt, bytesOf}
-use Rattle.model.specs.declared.Mode.{Mode}
+use Rattle.model.specs.declared.Suite.{Suite}
 use Rattle.model.specs.declared.Mode.the-variants.{Blanket}
 use Rattle.model.specs.declared.Consent.{Consent}
 use Rattle.model.specs.declared.Consent.the-variants.{Unasked, UpTo}
@@ -64,11 +64,13 @@ carried (Request p u) = isPermission p
 -- the one event whose record these bytes may be
 unfoldable pub eventIn : List ℕ → Event
 eventIn b =
-    cond (eqb (getD b 0 0) 1) (Install (record { 0 = leAt 2 b 2 }) (record { required = leAt 8 b 8; optional = leAt 8 b 16 }) (record { 0 = getD b 1 0 }))
-    (cond (eqb (getD b 0 0) 2) (Remove (record { 0 = leAt 2 b 2 }))
-    (cond (eqb (getD b 0 0) 3) (Start (record { 0 = leAt 2 b 2 }))
-    (cond (eqb (getD b 0 0) 4) Terminate
-    (cond (eqb (getD b 0 0) 5) (Request (record { 0 = getD b 4 0 }) (answerOf (getD b 5 0)))
+    let kind = getD b 0 0 in
+    let suite : Suite = record { 0 = leAt 2 b 2 } in
+    cond (eqb kind 1) (Install suite (record { required = leAt 8 b 8; optional = leAt 8 b 16 }) (record { 0 = getD b 1 0 }))
+    (cond (eqb kind 2) (Remove suite)
+    (cond (eqb kind 3) (Start suite)
+    (cond (eqb kind 4) Terminate
+    (cond (eqb kind 5) (Request (record { 0 = getD b 4 0 }) (answerOf (getD b 5 0)))
     Unreadable))))
 
 unfoldable pub equal : List ℕ → List ℕ → Bool

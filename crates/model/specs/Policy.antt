@@ -37,7 +37,8 @@ offered c = leb 1 c && leb c 4
 abbrev pub unconditional : ℕ → Bool
 unconditional c = eqb c 4
 
--- "1, 2, 3 offered with the user's consent up to that mode" (000: user); with any other cell the user is not asked
+-- "1, 2, 3 offered with the user's consent up to that mode" (000: user); with any other cell the user is not asked. A function of
+-- the cell: "So a domain gives at most one mode for a permission, as 000 requires" (8)
 unfoldable pub highest : ℕ → Consent
 highest c =
     cond (eqb c (width Oneshot)) (UpTo Oneshot)

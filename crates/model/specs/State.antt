@@ -7,7 +7,6 @@ use lib.Dec.{eqb}
 use Rattle.words.specs.Numbers.{leAt, bytesOf}
 use Rattle.model.specs.declared.Suite.{Suite}
 use Rattle.model.specs.declared.Decisions.{Decisions}
-use Rattle.model.specs.declared.Descriptor.{Descriptor}
 use Rattle.model.specs.declared.Slot.{Slot}
 use Rattle.model.specs.declared.Session.{Session}
 use Rattle.model.specs.Device.{noSuite, same, slotCount}
@@ -30,7 +29,12 @@ abbrev pub undecided : Decisions
 undecided = record { granted = 0; revoked = 0 }
 
 abbrev pub free : Slot
-free = record { suite = noSuite; domain = record { 0 = 0 }; descriptor = record { required = 0; optional = 0 }; decisions = undecided }
+free = record {
+  suite = noSuite;
+  domain = record { 0 = 0 };
+  descriptor = record { required = 0; optional = 0 };
+  decisions = undecided;
+}
 
 abbrev pub idle : Session
 idle = record { suite = noSuite; decisions = undecided }
@@ -77,7 +81,8 @@ sessionZeros b = eqb (leAt 6 b 2) 0 && eqb (leAt 16 b 24) 0
 
 unfoldable pub sessionBytes : Session → List ℕ
 sessionBytes r =
-    bytesOf 2 (r .suite .0) ++ (bytesOf 6 0 ++ (bytesOf 8 (r .decisions .granted) ++ (bytesOf 8 (r .decisions .revoked) ++ bytesOf 16 0)))
+    bytesOf 2 (r .suite .0) ++ (bytesOf 6 0 ++ (bytesOf 8 (r .decisions .granted) ++ (bytesOf 8 (r .decisions .revoked)
+    ++ bytesOf 16 0)))
 
 -- "Records 1 to 32 are slots: 0-1 suite number (0: free slot), 2 domain, 3-7 zero, 8-15 required, 16-23 optional,
 -- 24-31 granted, 32-39 revoked": the slot whose record begins at place a

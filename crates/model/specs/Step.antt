@@ -1,8 +1,6 @@
--- 01, What each event does, with the refusals of Answer numbers in their order. 000, Tables 2 and 3, (22): a failed precondition
--- changes nothing, and here has a number.
-use Prim.Native.Nat.{ℕ}
+-- 01, What each event does, with the refusals of Answer numbers in their order. 000, Tables 2 and 3, (22): an event whose
+-- precondition fails changes nothing; 01 gives each failure a number, and has one that 000 lacks, 24, since slots run out.
 use mathlib.Core.Bool.{Bool, not, _&&_, cond}
-use mathlib.Core.List.{List}
 use Rattle.model.specs.declared.Suite.{Suite}
 use Rattle.model.specs.declared.Permission.{Permission}
 use Rattle.model.specs.declared.Domain.{Domain}
@@ -71,8 +69,8 @@ enter None p s = s
 enter (Allow m) p s = keep m (grant p) s
 enter (Deny m) p s = keep m (revoke p) s
 
-unfoldable pub request : Fixed → State → Permission → UserAnswer → Response → Outcome
-request f s p u r = cond (refused r) (answer r s) (answer r (enter u p s))
+unfoldable pub request : State → Permission → UserAnswer → Response → Outcome
+request s p u r = cond (refused r) (answer r s) (answer r (enter u p s))
 
 -- ---- every event
 
@@ -102,4 +100,4 @@ step f s Terminate =
 -- 19, then the decision
 step f s (Request p u) =
     cond (not (running s)) (answer NO-SESSION s)
-    (request f s p u (judged f (s .session) (runningSlot s) p u))
+    (request s p u (judged f (s .session) (runningSlot s) p u))

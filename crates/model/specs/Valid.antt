@@ -1,5 +1,6 @@
--- 01, When a state is valid (000, 3.2; 004, 2.3), record by record in the order of request 1 of 02: the size; then the slots
--- and after them the session, each first in itself, then its number, then its decisions.
+-- 01, When a state is valid (000, 3.2; 004, 2.3), record by record in the order of request 1 of 02: the size; then each slot, and
+-- after them the session, first in itself, then its number, then its decisions. 004's conditions on methods and functions are none
+-- of 01's. The device's numbers are bounded here and not by their types, as the papers' sets are.
 use Prim.Native.Nat.{ℕ, zero, suc, _+_}
 use mathlib.Core.Bool.{Bool, true, false, not, _&&_, _||_, cond}
 use mathlib.Core.List.{List, [], _∷_}
@@ -27,8 +28,15 @@ declared x p = has (x .descriptor .required) p || has (x .descriptor .optional) 
 
 -- ---- decisions
 
+abbrev pub clear : Decisions → Bool
+clear d = eqb (d .granted) 0 && eqb (d .revoked) 0
+
 abbrev pub decides : Decisions → Permission → Bool
 decides d p = has (d .granted) p || has (d .revoked) p
+
+-- sets of permissions, each of which passes t
+abbrev pub allRight : Decisions → (Permission → Bool) → Bool
+allRight d t = isSet (d .granted) && (isSet (d .revoked) && every t)
 
 -- Decisions that hold as long as m says, at one permission that is declared or not and has cell c.
 -- "Blanket grants are declared and have cell 3. Session grants are declared and have cell 2 or 3" (000 (16), 004 2.15): the
@@ -45,8 +53,7 @@ fits f x m d p = fitting m (declared x p) (f .cell (x .domain) p) (has (d .grant
 -- "A free slot is all zero"
 abbrev pub blank : Slot → Bool
 blank x =
-    eqb (x .domain .0) 0 && (eqb (x .descriptor .required) 0 && (eqb (x .descriptor .optional) 0
-    && (eqb (x .decisions .granted) 0 && eqb (x .decisions .revoked) 0)))
+    eqb (x .domain .0) 0 && (eqb (x .descriptor .required) 0 && (eqb (x .descriptor .optional) 0 && clear (x .decisions)))
 
 -- the numbers are the device's, and "every required permission has a cell from 1 to 4 in the suite's domain" (000 (14))
 unfoldable pub installable : Fixed → Slot → Bool
@@ -68,7 +75,7 @@ ownNumber lower i = same i noSuite || not (among i lower)
 
 -- its blanket decisions
 unfoldable pub slotDecided : Fixed → Slot → Bool
-slotDecided f x = isSet (x .decisions .granted) && (isSet (x .decisions .revoked) && every (fits f x blanket (x .decisions)))
+slotDecided f x = allRight (x .decisions) (fits f x blanket (x .decisions))
 
 unfoldable pub slotValid : Fixed → List Suite → Slot → Bool
 slotValid f lower x = slotSound f x && (ownNumber lower (x .suite) && slotDecided f x)
@@ -81,17 +88,14 @@ slotsValid f lower (x ∷ xs) = slotValid f lower x && slotsValid f (x .suite �
 
 -- "so is record 0 when nothing runs"; "the running suite is installed" (000 (15))
 unfoldable pub sessionSound : State → Bool
-sessionSound s =
-    cond (same (s .session .suite) noSuite)
-    (eqb (s .session .decisions .granted) 0 && eqb (s .session .decisions .revoked) 0)
-    (carries (s .session .suite) (s .slots))
+sessionSound s = cond (same (s .session .suite) noSuite) (clear (s .session .decisions)) (carries (s .session .suite) (s .slots))
 
 -- its session decisions, and "for the running suite, none stands in two of its four sets (004's permStateCoherence)"
 abbrev pub fitsBeside : Fixed → Slot → Decisions → Permission → Bool
 fitsBeside f x d p = fits f x session d p && not (decides d p && decides (x .decisions) p)
 
 unfoldable pub sessionDecided : Fixed → Session → Slot → Bool
-sessionDecided f r x = isSet (r .decisions .granted) && (isSet (r .decisions .revoked) && every (fitsBeside f x (r .decisions)))
+sessionDecided f r x = allRight (r .decisions) (fitsBeside f x (r .decisions))
 
 unfoldable pub sessionValid : Fixed → State → Bool
 sessionValid f s = sessionSound s && sessionDecided f (s .session) (find (s .session .suite) (s .slots))

@@ -20,6 +20,13 @@ leAt-add (suc a) b s i =
     let r = rw e at (leAt-add a b s (i + 1)) in
     rw (suc-add, pow-succ', mul-assoc) (omega arith)
 
+-- a byte under a number: the lowest byte of both, and the rest
+pub low : (n : ℕ) {b : ℕ} → b < 256 → (b + 256 * n) % 256 ≡ b
+low n h = omega arith
+
+pub rest : (n : ℕ) {b : ℕ} → b < 256 → (b + 256 * n) / 256 ≡ n
+rest n h = omega arith
+
 -- w bytes make a number below 256 ^ w
 pub leAt-lt : (w : ℕ) (s : List ℕ) (i : ℕ) → ((k : ℕ) → getD s k 0 < 256) → leAt w s i < 256 ^ w
 unfolding leAt
@@ -69,7 +76,6 @@ pub bytesOf-leAt : (w : ℕ) (s : List ℕ) (i : ℕ) → i + w ≤ length s →
 unfolding leAt bytesOf
 bytesOf-leAt zero s i l h = refl
 bytesOf-leAt (suc w) s i l h =
-    let low : (getD s i 0 + 256 * leAt w s (i + 1)) % 256 ≡ getD s i 0 = omega (arith, h i) in
-    let rest : (getD s i 0 + 256 * leAt w s (i + 1)) / 256 ≡ leAt w s (i + 1) = omega (arith, h i) in
     let b : i < length s = omega arith in
-    rw (low, rest, drop-cons s i 0, ← add-one i) (ap (λ (t : List ℕ). getD s i 0 ∷ t) (bytesOf-leAt w s (i + 1) (omega arith) h))
+    rw (low (leAt w s (i + 1)) (h i), rest (leAt w s (i + 1)) (h i), drop-cons s i 0, ← add-one i)
+    (ap (λ (t : List ℕ). getD s i 0 ∷ t) (bytesOf-leAt w s (i + 1) (omega arith) h))

@@ -2,14 +2,14 @@
 use mathlib.Core.Path.{_≡_, refl, ap, _∙_}
 use mathlib.Core.Logic.{_⊎_, inl, inr, ⊎-elim}
 use mathlib.Core.List.{List, [], _∷_, _++_, append-nil, append-assoc}
-use Prim.Native.Nat.{ℕ, zero, suc, _+_, _*_, _/_, _%_, _^_, _≤_, _<_}
+use Prim.Native.Nat.{ℕ, zero, suc, _+_, _/_, _%_, _^_, _≤_, _<_}
 use native.Mathlib.Nat.{zero-add, add-zero, suc-add, pow-zero, pow-succ', div-one, div-div-eq-div-mul}
 use native.Mathlib.Numerals.{add-one}
 use native.Mathlib.Omega.{arith}
 use lib.ListN.{length, getD, set, take, drop, length-set, length-append}
 use lib.Seq.{sets, sets-eq, set-getD, drop-append-seam, getD-set-same, getD-set-other, getD-take, getD-drop}
 use Rattle.words.specs.Numbers.{leAt, bytesOf}
-use Rattle.words.proofs.Numbers.{leAt-same, leAt-bytes, length-bytesOf, bytes-hold}
+use Rattle.words.proofs.Numbers.{low, rest, leAt-same, leAt-bytes, length-bytesOf, bytes-hold}
 
 -- consecutive stores are one
 pub sets-then : (l : List ℕ) (i : ℕ) (vs ws : List ℕ) → sets (sets l i vs) (i + length vs) ws ≡ sets l i (vs ++ ws)
@@ -60,9 +60,7 @@ pub sets-read : (w : ℕ) (l : List ℕ) (i : ℕ) → ((k : ℕ) → getD l k 0
 unfolding leAt bytesOf
 sets-read zero l i h = refl
 sets-read (suc w) l i h =
-    let low : (getD l i 0 + 256 * leAt w l (i + 1)) % 256 ≡ getD l i 0 = omega (arith, h i) in
-    let rest : (getD l i 0 + 256 * leAt w l (i + 1)) / 256 ≡ leAt w l (i + 1) = omega (arith, h i) in
-    rw (low, rest, set-getD, add-one) (sets-read w l (suc i) h)
+    rw (low (leAt w l (i + 1)) (h i), rest (leAt w l (i + 1)) (h i), set-getD, add-one) (sets-read w l (suc i) h)
 
 -- the same, with more stores behind it
 pub sets-field : (w : ℕ) (l : List ℕ) (i : ℕ) (vs : List ℕ) → ((k : ℕ) → getD l k 0 < 256)
