@@ -16,7 +16,7 @@ use Rattle.model.specs.declared.Event.the-variants.{Unreadable, Install,
 use Rattle.model.specs.Device.{isPermission, isDomain, isSuite, isSet, width}
 use Rattle.model.specs.Policy.{highest}
 
--- "Answers: 0 none given; 1, 2, 3 allow in that mode; 4, 5, 6 deny for oneshot, session, blanket"
+-- "Answers: 0 none given; 1, 2, 3 allow in that mode; 4, 5, 6 deny for oneshot, session, blanket" (000 (18))
 abbrev pub answerNo : UserAnswer → ℕ
 answerNo None = 0
 answerNo (Allow m) = width m

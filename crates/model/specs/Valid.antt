@@ -1,6 +1,7 @@
--- 01, When a state is valid (000, 3.2; 004, 2.3), record by record in the order of request 1 of 02: the size; then each slot, and
--- after them the session, first in itself, then its number, then its decisions. 004's conditions on methods and functions are none
--- of 01's. The device's numbers are bounded here and not by their types, as the papers' sets are.
+-- 01, When a state is valid (000, 3.2; 004, 2.3), record by record in the order and by the names of request 1 of 02: the size; then
+-- each slot, and after them the session, whether it is wrong in itself (`Sound`), has a number seen before (`ownNumber`), has a
+-- decision wrong (`Decided`). 004's conditions on methods and functions are none of 01's. What the papers have as sets is bounded
+-- here by the device's numbers.
 use Prim.Native.Nat.{ℕ, zero, suc, _+_}
 use mathlib.Core.Bool.{Bool, true, false, not, _&&_, _||_, cond}
 use mathlib.Core.List.{List, [], _∷_}
@@ -39,9 +40,9 @@ abbrev pub allRight : Decisions → (Permission → Bool) → Bool
 allRight d t = isSet (d .granted) && (isSet (d .revoked) && every t)
 
 -- Decisions that hold as long as m says, at one permission that is declared or not and has cell c.
--- "Blanket grants are declared and have cell 3. Session grants are declared and have cell 2 or 3" (000 (16), 004 2.15): the
--- user may consent in mode m. "Either kind of revocation is declared and has cell 1, 2 or 3" (004, policyCompatible): the user
--- is asked. "No permission stands in both sets."
+-- "Blanket grants are declared and have cell 3" (004 2.15). "Session grants are declared and have cell 2 or 3" (000 (16)): the user
+-- may consent in mode m. "Either kind of revocation is declared and has cell 1, 2 or 3": the user is asked (004's policyCompatible
+-- wants no more than a cell other than 0). "No permission stands in both sets" (000, 3.2, 6).
 abbrev pub fitting : Mode → (declared : Bool) → (c : ℕ) → (granted revoked : Bool) → Bool
 fitting m k c g r = (g ⇒ (k && admits c m)) && ((r ⇒ (k && admits c oneshot)) && not (g && r))
 
@@ -55,7 +56,7 @@ abbrev pub blank : Slot → Bool
 blank x =
     eqb (x .domain .0) 0 && (eqb (x .descriptor .required) 0 && (eqb (x .descriptor .optional) 0 && clear (x .decisions)))
 
--- the numbers are the device's, and "every required permission has a cell from 1 to 4 in the suite's domain" (000 (14))
+-- the numbers are the device's, and "every required permission has a cell from 1 to 4 in the suite's domain" (000 (13), (14))
 unfoldable pub installable : Fixed → Slot → Bool
 installable f x =
     isSuite (x .suite) && (isDomain (x .domain) && (isSet (x .descriptor .required) && (isSet (x .descriptor .optional)
