@@ -33,10 +33,10 @@ use Rattle.model.specs.Answers.{refused}
 use Rattle.model.specs.Decision.{standing, given, grant, revoke}
 use Rattle.model.specs.Step.{Outcome, answer, running, lacking, installed, runningSlot, judged, sessionDeciding, slotDeciding, keep, enter, request, step}
 use Rattle.model.specs.Run.{after}
+use Rattle.model.specs.Calls.{eventsFrom}
 use Rattle.model.proofs.Tests.{both, all-three, cases, same-sym, every-all}
 use Rattle.model.proofs.Slots.{same-suite, find-suite, length-amend, carries-deciding, find-deciding, carries-put, find-put}
 use Rattle.model.proofs.Entering.{Taken, taken, Undecided, none-stands, Enters, grant-enters, revoke-enters, session-enters, slot-enters, slot-enters-beside}
-use Rattle.model.specs.Calls.{eventsFrom}
 
 -- ---- the slots stay valid
 

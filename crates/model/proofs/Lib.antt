@@ -9,3 +9,4 @@ pub mod Entering
 pub mod Right
 pub mod Kept
 pub mod Runs
+pub mod RoundTrip

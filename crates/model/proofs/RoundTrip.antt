@@ -1,0 +1,98 @@
+-- Event records: what is read and written back is the same record, what is written and read back is the same event. Assumes nothing.
+use Prim.Native.Nat.{ℕ, zero, suc, _+_, _<_, _^_}
+use native.Mathlib.Nat.{mod-eq-of-lt}
+use native.Mathlib.Omega.{arith}
+use mathlib.Core.Path.{_≡_, refl, sym, ap, ap₂, _∙_}
+use mathlib.Core.Bool.{Bool, true, false, not, _&&_, cond, false≢true, true≢false}
+use mathlib.Core.List.{List, [], _∷_, _++_}
+use lib.ListN.{length}
+use lib.Dec.{eqb, ltb}
+use borrow.Author.Tests.{eqb-true, eq-eqb, ltb-true}
+use Rattle.words.specs.Numbers.{leAt, bytesOf}
+use Rattle.words.proofs.Numbers.{leAt-bytes}
+use Rattle.model.specs.declared.Suite.{Suite}
+use Rattle.model.specs.declared.Mode.the-variants.{Oneshot, Session, Blanket}
+use Rattle.model.specs.declared.UserAnswer.{UserAnswer}
+use Rattle.model.specs.declared.UserAnswer.the-variants.{None, Allow, Deny}
+use Rattle.model.specs.declared.Event.{Event}
+use Rattle.model.specs.declared.Event.the-variants.{Unreadable, Install, Remove, Start, Terminate, Request}
+use Rattle.model.specs.Device.{isSuite, isDomain, isSet}
+use Rattle.model.specs.Policy.{highest}
+use Rattle.model.specs.Events.{answerNo, answerOf, layout, writeEvent, carried, eventIn, equal, readEvent}
+use Rattle.model.proofs.Tests.{both, all-three}
+
+-- ---- lists
+
+equal-same : (l : List ℕ) → equal l l ≡ true
+unfolding equal
+equal-same [] = refl
+equal-same (x ∷ xs) = rw (eq-eqb x x refl) (equal-same xs)
+
+same-equal : (l m : List ℕ) → equal l m ≡ true → l ≡ m
+unfolding equal
+same-equal [] [] h = refl
+same-equal [] (y ∷ m) h = absurd (false≢true h)
+same-equal (x ∷ l) [] h = absurd (false≢true h)
+same-equal (x ∷ l) (y ∷ m) h =
+    let (here, more) = both (eqb x y) (equal l m) h in
+    ap₂ _∷_ (eqb-true x y here) (same-equal l m more)
+
+-- ---- a record that is read and written back
+
+pub written-back : (b : List ℕ) → carried (readEvent b) ≡ true → writeEvent (readEvent b) ≡ b
+unfolding readEvent
+written-back b = go (carried (eventIn b)) (equal (writeEvent (eventIn b)) b) refl
+  where
+    go : (c t : Bool) → equal (writeEvent (eventIn b)) b ≡ t → carried (cond (c && t) (eventIn b) Unreadable) ≡ true
+        → writeEvent (cond (c && t) (eventIn b) Unreadable) ≡ b
+    go true true e h = same-equal (writeEvent (eventIn b)) b e
+    go true false e h = absurd (false≢true h)
+    go false t e h = absurd (false≢true h)
+
+-- ---- an event that is written and read back
+
+answer-back : (u : UserAnswer) → answerOf (answerNo u) ≡ u
+unfolding answerOf highest
+answer-back None = refl
+answer-back (Allow Oneshot) = refl
+answer-back (Allow Session) = refl
+answer-back (Allow Blanket) = refl
+answer-back (Deny Oneshot) = refl
+answer-back (Deny Session) = refl
+answer-back (Deny Blanket) = refl
+
+number : (i : Suite) → isSuite i ≡ true → i .0 < 256 ^ 2
+number i h = ltb-true (i .0) 65536 (both (ltb 0 (i .0)) (ltb (i .0) 65536) h .1)
+
+-- the fields of a record
+module _ (k d i p u r o : ℕ) where
+  suite-back : i < 256 ^ 2 → leAt 2 (layout k d i p u r o) 2 ≡ i
+  unfolding layout
+  suite-back h = leAt-bytes 2 (k ∷ d ∷ []) _ i ∙ mod-eq-of-lt h
+
+  required-back : r < 256 ^ 8 → leAt 8 (layout k d i p u r o) 8 ≡ r
+  unfolding layout bytesOf
+  required-back h = leAt-bytes 8 (k ∷ d ∷ (bytesOf 2 i ++ (p ∷ u ∷ bytesOf 2 0))) _ r ∙ mod-eq-of-lt h
+
+  optional-back : o < 256 ^ 8 → leAt 8 (layout k d i p u r o) 16 ≡ o
+  unfolding layout bytesOf
+  optional-back h = leAt-bytes 8 (k ∷ d ∷ (bytesOf 2 i ++ (p ∷ u ∷ (bytesOf 2 0 ++ bytesOf 8 r)))) [] o ∙ mod-eq-of-lt h
+
+event-back : (e : Event) → carried e ≡ true → eventIn (writeEvent e) ≡ e
+unfolding eventIn layout bytesOf
+event-back Unreadable h = absurd (false≢true h)
+event-back (Install i x d) h =
+    let (is, r, rest) = all-three (isSuite i) (isSet (x .required)) _ h in
+    let (o, _) = both (isSet (x .optional)) (isDomain d) rest in
+    λ k. Install (record { 0 = suite-back 1 (d .0) (i .0) 0 0 (x .required) (x .optional) (number i is) k }) (record {
+      required = required-back 1 (d .0) (i .0) 0 0 (x .required) (x .optional) (ltb-true (x .required) (2 ^ 64) r) k;
+      optional = optional-back 1 (d .0) (i .0) 0 0 (x .required) (x .optional) (ltb-true (x .optional) (2 ^ 64) o) k;
+    }) d
+event-back (Remove i) h = λ k. Remove (record { 0 = suite-back 2 0 (i .0) 0 0 0 0 (number i h) k })
+event-back (Start i) h = λ k. Start (record { 0 = suite-back 3 0 (i .0) 0 0 0 0 (number i h) k })
+event-back Terminate h = refl
+event-back (Request p u) h = ap (Request p) (answer-back u)
+
+pub read-back : (e : Event) → carried e ≡ true → readEvent (writeEvent e) ≡ e
+unfolding readEvent
+read-back e h = rw (event-back e h, h, equal-same (writeEvent e))
