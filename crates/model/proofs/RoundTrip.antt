@@ -1,11 +1,9 @@
 -- Event records: what is read and written back is the same record, what is written and read back is the same event. Assumes nothing.
-use Prim.Native.Nat.{ℕ, zero, suc, _+_, _<_, _^_}
+use Prim.Native.Nat.{ℕ, _<_, _^_}
 use native.Mathlib.Nat.{mod-eq-of-lt}
-use native.Mathlib.Omega.{arith}
-use mathlib.Core.Path.{_≡_, refl, sym, ap, ap₂, _∙_}
-use mathlib.Core.Bool.{Bool, true, false, not, _&&_, cond, false≢true, true≢false}
+use mathlib.Core.Path.{_≡_, refl, ap, ap₂, _∙_}
+use mathlib.Core.Bool.{Bool, true, false, _&&_, cond, false≢true}
 use mathlib.Core.List.{List, [], _∷_, _++_}
-use lib.ListN.{length}
 use lib.Dec.{eqb, ltb}
 use borrow.Author.Tests.{eqb-true, eq-eqb, ltb-true}
 use Rattle.words.specs.Numbers.{leAt, bytesOf}
@@ -28,7 +26,7 @@ unfolding equal
 equal-same [] = refl
 equal-same (x ∷ xs) = rw (eq-eqb x x refl) (equal-same xs)
 
-same-equal : (l m : List ℕ) → equal l m ≡ true → l ≡ m
+pub same-equal : (l m : List ℕ) → equal l m ≡ true → l ≡ m
 unfolding equal
 same-equal [] [] h = refl
 same-equal [] (y ∷ m) h = absurd (false≢true h)
@@ -61,7 +59,7 @@ answer-back (Deny Oneshot) = refl
 answer-back (Deny Session) = refl
 answer-back (Deny Blanket) = refl
 
-number : (i : Suite) → isSuite i ≡ true → i .0 < 256 ^ 2
+pub number : (i : Suite) → isSuite i ≡ true → i .0 < 256 ^ 2
 number i h = ltb-true (i .0) 65536 (both (ltb 0 (i .0)) (ltb (i .0) 65536) h .1)
 
 -- the fields of a record

@@ -1,0 +1,126 @@
+-- A record compared byte by byte is a record compared number by number. Assumes nothing.
+use Prim.Native.Nat.{ℕ, zero, suc, _+_, _*_, _/_, _%_, _^_, _≤_, _<_}
+use native.Mathlib.Nat.{add-zero, pow-zero, pow-succ'}
+use native.Mathlib.Numerals.{add-one}
+use native.Mathlib.Omega.{arith}
+use mathlib.Core.Path.{_≡_, refl, sym, ap, _∙_}
+use mathlib.Core.Bool.{Bool, true, false, _&&_, cond, false≢true, and-assoc, and-true}
+use mathlib.Core.List.{List, [], _∷_, _++_, append-nil}
+use lib.ListN.{length, getD, drop, drop-of-length-le}
+use lib.Seq.{drop-cons}
+use lib.Dec.{eqb, lit<}
+use borrow.Author.Tests.{eqb-true, eqb-false, eq-eqb, ne-eqb, ltb-true}
+use Rattle.words.specs.Numbers.{leAt, bytesOf}
+use Rattle.model.specs.declared.Event.{Event}
+use Rattle.model.specs.declared.Event.the-variants.{Unreadable, Install, Remove, Start, Terminate, Request}
+use Rattle.model.specs.Device.{isSuite, isDomain, isSet}
+use Rattle.model.specs.Events.{answerNo, layout, writeEvent, carried, eventIn, equal, readEvent}
+use Rattle.model.proofs.Tests.{both, all-three}
+use Rattle.model.proofs.RoundTrip.{number, same-equal}
+use Rattle.events.specs.declared.Fields.{Fields}
+use Rattle.events.specs.Fields.{fields, fieldsAt, fieldBytes, fieldsOf, eventOf, sameFields}
+
+-- a byte and the rest of a number are compared as one
+eqb-split : (x b n : ℕ) → b < 256 → eqb x (b + 256 * n) ≡ (eqb (x % 256) b && eqb (x / 256) n)
+eqb-split x b n h = go (eqb (x % 256) b) (eqb (x / 256) n) refl refl
+  where
+    go : (s t : Bool) → eqb (x % 256) b ≡ s → eqb (x / 256) n ≡ t → eqb x (b + 256 * n) ≡ (s && t)
+    go true true p q = eq-eqb x (b + 256 * n) (omega (arith, eqb-true (x % 256) b p, eqb-true (x / 256) n q))
+    go true false p q = ne-eqb x (b + 256 * n) (λ e. eqb-false (x / 256) n q (omega arith))
+    go false t p q = ne-eqb x (b + 256 * n) (λ e. eqb-false (x % 256) b p (omega arith))
+
+equal-end : equal [] [] ≡ true
+unfolding equal
+equal-end = refl
+
+-- an event's record is the bytes of its numbers
+pub bytes-written : (e : Event) → carried e ≡ true → fieldBytes (fieldsOf e) ≡ writeEvent e
+unfolding fieldBytes layout
+bytes-written Unreadable h = absurd (false≢true h)
+bytes-written (Install i x d) h = refl
+bytes-written (Remove i) h = refl
+bytes-written (Start i) h = refl
+bytes-written Terminate h = refl
+bytes-written (Request p u) h = refl
+
+length-event : (e : Event) → carried e ≡ true → length (writeEvent e) ≡ 24
+unfolding fieldBytes bytesOf
+length-event e h = ap length (sym (bytes-written e h))
+
+module _ (l : List ℕ) (bytes : (k : ℕ) → getD l k 0 < 256) where
+  -- one byte at place i, and what follows
+  equal-byte : (x : ℕ) (vs : List ℕ) (i : ℕ) → i < length l
+      → equal (x ∷ vs) (drop i l) ≡ (eqb x (getD l i 0) && equal vs (drop (suc i) l))
+  unfolding equal
+  equal-byte x vs i h = rw (drop-cons l i 0)
+
+  -- a number of w bytes at place i, and what follows
+  equal-number : (w x : ℕ) (vs : List ℕ) (i : ℕ) → x < 256 ^ w → i + w ≤ length l
+      → equal (bytesOf w x ++ vs) (drop i l) ≡ (eqb x (leAt w l i) && equal vs (drop (i + w) l))
+  unfolding bytesOf leAt
+  equal-number zero x vs i b h =
+      let z : x ≡ 0 = omega (arith, pow-zero 256) in
+      rw (add-zero, eq-eqb x 0 z)
+  equal-number (suc w) x vs i b h =
+      let e : i + suc w ≡ i + 1 + w = omega arith in
+      let r = equal-number w (x / 256) vs (i + 1) (omega (arith, pow-succ' 256 w)) (omega arith) in
+      equal-byte (x % 256) (bytesOf w (x / 256) ++ vs) i (omega arith)
+      ∙ rw (← add-one i, r, eqb-split x (getD l i 0) (leAt w l (i + 1)) (bytes i), e, and-assoc)
+
+  module _ (size : length l ≡ 24) where
+    equal-layout : (k d i p u r o : ℕ) → i < 256 ^ 2 → r < 256 ^ 8 → o < 256 ^ 8
+        → equal (layout k d i p u r o) l ≡ sameFields (fields k d i p u r o) (fieldsAt l)
+    unfolding layout sameFields fieldsAt
+    equal-layout k d i p u r o a b c =
+        rw (
+          equal-byte k _ 0 (omega arith),
+          equal-byte d _ 1 (omega arith),
+          equal-number 2 i _ 2 a (omega arith),
+          equal-byte p _ 4 (omega arith),
+          equal-byte u _ 5 (omega arith),
+          equal-number 2 0 _ 6 (lit< tt) (omega arith),
+          equal-number 8 r _ 8 b (omega arith),
+          ← append-nil (bytesOf 8 o),
+          equal-number 8 o [] 16 c (omega arith),
+          drop-of-length-le l {i = 24} (omega arith),
+          equal-end,
+          and-true,
+        )
+
+    equal-event : (e : Event) → carried e ≡ true → equal (writeEvent e) l ≡ sameFields (fieldsOf e) (fieldsAt l)
+    equal-event Unreadable h = absurd (false≢true h)
+    equal-event (Install i x d) h =
+        let (is, r, rest) = all-three (isSuite i) (isSet (x .required)) _ h in
+        let (o, _) = both (isSet (x .optional)) (isDomain d) rest in
+        equal-layout 1 (d .0) (i .0) 0 0 (x .required) (x .optional) (number i is)
+        (ltb-true (x .required) (2 ^ 64) r) (ltb-true (x .optional) (2 ^ 64) o)
+    equal-event (Remove i) h = equal-layout 2 0 (i .0) 0 0 0 0 (number i h) (lit< tt) (lit< tt)
+    equal-event (Start i) h = equal-layout 3 0 (i .0) 0 0 0 0 (number i h) (lit< tt) (lit< tt)
+    equal-event Terminate h = equal-layout 4 0 0 0 0 0 0 (lit< tt) (lit< tt) (lit< tt)
+    equal-event (Request p u) h = equal-layout 5 0 0 (p .0) (answerNo u) 0 0 (lit< tt) (lit< tt) (lit< tt)
+
+    by-numbers : readEvent l
+        ≡ (let e = eventOf (fieldsAt l) in cond (carried e && sameFields (fieldsOf e) (fieldsAt l)) e Unreadable)
+    unfolding readEvent eventIn eventOf fieldsAt
+    by-numbers = go (carried (eventIn l)) refl
+      where
+        go : (c : Bool) → carried (eventIn l) ≡ c → cond (c && equal (writeEvent (eventIn l)) l) (eventIn l) Unreadable
+            ≡ cond (c && sameFields (fieldsOf (eventIn l)) (fieldsAt l)) (eventIn l) Unreadable
+        go true h = rw (equal-event (eventIn l) h)
+        go false h = refl
+
+    -- 24 bytes are read by their numbers: f, of which e may be the event, g the numbers of e's record
+    pub read-numbers : {f g : Fields} {e : Event} {fit alike : Bool} → f ≡ fieldsAt l → e ≡ eventOf f → fit ≡ carried e
+        → g ≡ fieldsOf e → alike ≡ sameFields g f → cond (fit && alike) e Unreadable ≡ readEvent l
+    read-numbers p q r s t = sym (by-numbers ∙ rw (← p, ← q, ← r, ← s, ← t))
+
+-- any other number of bytes is no event
+pub read-other : (l : List ℕ) → (length l ≡ 24 → ⊥) → readEvent l ≡ Unreadable
+unfolding readEvent
+read-other l n = go (carried (eventIn l)) (equal (writeEvent (eventIn l)) l) refl refl
+  where
+    go : (c t : Bool) → carried (eventIn l) ≡ c → equal (writeEvent (eventIn l)) l ≡ t
+        → cond (c && t) (eventIn l) Unreadable ≡ Unreadable
+    go true true h e = absurd (n (ap length (sym (same-equal (writeEvent (eventIn l)) l e)) ∙ length-event (eventIn l) h))
+    go true false h e = refl
+    go false t h e = refl
