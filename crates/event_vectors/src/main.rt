@@ -2,140 +2,39 @@
 use libc::STDOUT_FILENO;
 ghost use Prim.Native.Nat.{_<_};
 
-const INSTALL: [u8; 24] = [
-    1,
-    2,
-    10,
-    0,
-    0,
-    0,
-    0,
-    0,
-    3,
-    0,
-    0,
-    0,
-    0,
-    0,
-    0,
-    0,
-    28,
-    0,
-    0,
-    0,
-    0,
-    0,
-    0,
-    0,
-];
+// A record by the low bytes of its fields, the sets empty.
+fn made(kind: u8, domain: u8, suite: u8, permission: u8, answer: u8) -> [u8; 24] {
+    let mut r = [0u8; 24];
+    r[0] = kind;
+    r[1] = domain;
+    r[2] = suite;
+    r[4] = permission;
+    r[5] = answer;
+    r
+}
 
-const REMOVE: [u8; 24] = [
-    2,
-    0,
-    10,
-    0,
-    0,
-    0,
-    0,
-    0,
-    0,
-    0,
-    0,
-    0,
-    0,
-    0,
-    0,
-    0,
-    0,
-    0,
-    0,
-    0,
-    0,
-    0,
-    0,
-    0,
-];
+fn install() -> [u8; 24] {
+    let mut r = made(1, 2, 10, 0, 0);
+    r[8] = 3;
+    r[16] = 28;
+    r
+}
 
-const START: [u8; 24] = [
-    3,
-    0,
-    10,
-    0,
-    0,
-    0,
-    0,
-    0,
-    0,
-    0,
-    0,
-    0,
-    0,
-    0,
-    0,
-    0,
-    0,
-    0,
-    0,
-    0,
-    0,
-    0,
-    0,
-    0,
-];
+fn remove() -> [u8; 24] {
+    made(2, 0, 10, 0, 0)
+}
 
-const TERMINATE: [u8; 24] = [
-    4,
-    0,
-    0,
-    0,
-    0,
-    0,
-    0,
-    0,
-    0,
-    0,
-    0,
-    0,
-    0,
-    0,
-    0,
-    0,
-    0,
-    0,
-    0,
-    0,
-    0,
-    0,
-    0,
-    0,
-];
+fn start() -> [u8; 24] {
+    made(3, 0, 10, 0, 0)
+}
 
-const REQUEST: [u8; 24] = [
-    5,
-    0,
-    0,
-    0,
-    3,
-    2,
-    0,
-    0,
-    0,
-    0,
-    0,
-    0,
-    0,
-    0,
-    0,
-    0,
-    0,
-    0,
-    0,
-    0,
-    0,
-    0,
-    0,
-    0,
-];
+fn terminate() -> [u8; 24] {
+    made(4, 0, 0, 0, 0)
+}
+
+fn request() -> [u8; 24] {
+    made(5, 0, 0, 3, 2)
+}
 
 fn print(n: u8) {
     io::write_all(STDOUT_FILENO, b" ");
@@ -191,44 +90,46 @@ fn written(event: model::Event) {
 }
 
 fn damages() {
-    damaged(b"install with 255 in each place:", INSTALL, 255);
-    damaged(b"install with 1 in each place:", INSTALL, 1);
-    damaged(b"remove with 255 in each place:", REMOVE, 255);
-    damaged(b"remove with 1 in each place:", REMOVE, 1);
-    damaged(b"start with 255 in each place:", START, 255);
-    damaged(b"start with 1 in each place:", START, 1);
-    damaged(b"terminate with 255 in each place:", TERMINATE, 255);
-    damaged(b"terminate with 1 in each place:", TERMINATE, 1);
-    damaged(b"request with 255 in each place:", REQUEST, 255);
-    damaged(b"request with 1 in each place:", REQUEST, 1);
+    damaged(b"install with 255 in each place:", install(), 255);
+    damaged(b"install with 1 in each place:", install(), 1);
+    damaged(b"remove with 255 in each place:", remove(), 255);
+    damaged(b"remove with 1 in each place:", remove(), 1);
+    damaged(b"start with 255 in each place:", start(), 255);
+    damaged(b"start with 1 in each place:", start(), 1);
+    damaged(b"terminate with 255 in each place:", terminate(), 255);
+    damaged(b"terminate with 1 in each place:", terminate(), 1);
+    damaged(b"request with 255 in each place:", request(), 255);
+    damaged(b"request with 1 in each place:", request(), 1);
 }
 
 fn sizes() {
     line(b"0, 23, 24 and 25 bytes:");
+    let mut whole = [0u8; 24];
+    whole[0] = 4;
     let long = [4u8; 25];
-    print(through(&long[..0]));
-    print(through(&TERMINATE[..23]));
-    print(through(&TERMINATE));
+    print(through(&whole[..0]));
+    print(through(&whole[..23]));
+    print(through(&whole));
     print(through(&long));
 }
 
 fn reads() {
     line(b"an install with kind and domain 0 2, 6 2, 1 0, 1 7, 1 8:");
-    edge(INSTALL, 0, 0, 2);
-    edge(INSTALL, 0, 6, 2);
-    edge(INSTALL, 0, 1, 0);
-    edge(INSTALL, 0, 1, 7);
-    edge(INSTALL, 0, 1, 8);
+    edge(install(), 0, 0, 2);
+    edge(install(), 0, 6, 2);
+    edge(install(), 0, 1, 0);
+    edge(install(), 0, 1, 7);
+    edge(install(), 0, 1, 8);
     line(b"a start of suite 0, 1, 256, 65535:");
-    edge(START, 2, 0, 0);
-    edge(START, 2, 1, 0);
-    edge(START, 2, 0, 1);
-    edge(START, 2, 255, 255);
+    edge(start(), 2, 0, 0);
+    edge(start(), 2, 1, 0);
+    edge(start(), 2, 0, 1);
+    edge(start(), 2, 255, 255);
     line(b"a request with permission and answer 0 0, 63 6, 64 6, 63 7:");
-    edge(REQUEST, 4, 0, 0);
-    edge(REQUEST, 4, 63, 6);
-    edge(REQUEST, 4, 64, 6);
-    edge(REQUEST, 4, 63, 7);
+    edge(request(), 4, 0, 0);
+    edge(request(), 4, 63, 6);
+    edge(request(), 4, 64, 6);
+    edge(request(), 4, 63, 7);
 }
 
 fn writes() {
