@@ -1,12 +1,14 @@
 -- Numbers in bytes: the laws of `leAt` and `bytesOf`, each once for every width. Assumes nothing.
 use mathlib.Core.Path.{_≡_, refl, ap}
+use mathlib.Core.Bool.{Bool, true, false, _&&_, and-assoc}
 use mathlib.Core.List.{List, [], _∷_, _++_}
 use Prim.Native.Nat.{ℕ, zero, suc, _+_, _*_, _/_, _%_, _^_, _≤_, _<_}
 use native.Mathlib.Nat.{zero-add, add-zero, suc-add, pow-zero, pow-suc, pow-succ', mul-assoc, one-mul, mod-one, one-le-pow}
 use native.Mathlib.Numerals.{add-one}
 use native.Mathlib.Omega.{arith}
 use lib.Arith.{mod-mul}
-use lib.Dec.{lit<}
+use lib.Dec.{eqb, lit<}
+use borrow.Author.Tests.{eqb-true, eqb-false, eq-eqb, ne-eqb}
 use lib.ListN.{length, getD, take, drop, length-append}
 use lib.Seq.{drop-cons, append-snoc, getD-append-seam}
 use Rattle.words.specs.Numbers.{leAt, bytesOf}
@@ -26,6 +28,10 @@ low n h = omega arith
 
 pub rest : (n : ℕ) {b : ℕ} → b < 256 → (b + 256 * n) / 256 ≡ n
 rest n h = omega arith
+
+pub leAt-one : (s : List ℕ) (i : ℕ) → leAt 1 s i ≡ getD s i 0
+unfolding leAt
+leAt-one s i = rw add-zero
 
 -- w bytes make a number below 256 ^ w
 pub leAt-lt : (w : ℕ) (s : List ℕ) (i : ℕ) → ((k : ℕ) → getD s k 0 < 256) → leAt w s i < 256 ^ w
@@ -51,6 +57,23 @@ leAt-zero (suc w) s i e zero l = rw add-zero (omega arith)
 leAt-zero (suc w) s i e (suc k) l =
     let n : i + suc k ≡ i + 1 + k = omega arith in
     rw n (leAt-zero w s (i + 1) (omega arith) k (omega arith))
+
+-- a number is 0 where its low a bytes and its high b bytes are
+zero-split : (x n : ℕ) → eqb (x + 256 * n) 0 ≡ (eqb x 0 && eqb n 0)
+zero-split x n = go (eqb x 0) (eqb n 0) refl refl
+  where
+    go : (s t : Bool) → eqb x 0 ≡ s → eqb n 0 ≡ t → eqb (x + 256 * n) 0 ≡ (s && t)
+    go true true p q = eq-eqb (x + 256 * n) 0 (omega (arith, eqb-true x 0 p, eqb-true n 0 q))
+    go true false p q = ne-eqb (x + 256 * n) 0 (λ e. eqb-false n 0 q (omega arith))
+    go false t p q = ne-eqb (x + 256 * n) 0 (λ e. eqb-false x 0 p (omega arith))
+
+pub leAt-zeros : (a b : ℕ) (s : List ℕ) (i : ℕ) → eqb (leAt (a + b) s i) 0 ≡ (eqb (leAt a s i) 0 && eqb (leAt b s (i + a)) 0)
+unfolding leAt
+leAt-zeros zero b s i = rw (zero-add, add-zero)
+leAt-zeros (suc a) b s i =
+    let e : i + suc a ≡ i + 1 + a = omega arith in
+    let x = getD s i 0 in
+    rw (suc-add, zero-split x (leAt (a + b) s (i + 1)), leAt-zeros a b s (i + 1), zero-split x (leAt a s (i + 1)), e, and-assoc)
 
 pub length-bytesOf : (w x : ℕ) → length (bytesOf w x) ≡ w
 unfolding bytesOf

@@ -18,6 +18,11 @@ sets-then l i (v ∷ vs) ws =
     let e : i + suc (length vs) ≡ suc i + length vs = omega arith in
     rw e (sets-then (set l i v) (suc i) vs ws)
 
+-- m has the stores vs, and n those of ws behind them
+pub sets-next : {m n : List ℕ} (l : List ℕ) (i : ℕ) (vs ws : List ℕ) → m ≡ sets l i vs → n ≡ sets m (i + length vs) ws
+    → n ≡ sets l i (vs ++ ws)
+sets-next l i vs ws p q = q ∙ rw p (sets-then l i vs ws)
+
 -- the stores of the low a bytes of a number and of its high b bytes are the stores of all
 pub sets-bytes : (a b : ℕ) (l : List ℕ) (i x : ℕ)
     → sets (sets l i (bytesOf a (x % 256 ^ a))) (i + a) (bytesOf b (x / 256 ^ a)) ≡ sets l i (bytesOf (a + b) x)

@@ -1,0 +1,4 @@
+pub mod Records
+pub mod Holding
+pub mod Zeros
+pub mod Places
