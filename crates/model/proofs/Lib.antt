@@ -5,6 +5,7 @@ pub mod Listing
 pub mod Cases
 pub mod Edges
 pub mod Slots
+pub mod ValidSlots
 pub mod Entering
 pub mod Right
 pub mod Kept
