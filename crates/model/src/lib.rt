@@ -3,7 +3,7 @@ ghost use mathlib.Core.Path.{_≡_};
 ghost use Rattle.model.specs.Device.{width};
 ghost use Rattle.model.specs.Policy.{highest};
 ghost use Rattle.model.specs.State.{undecided, free, idle};
-ghost use Rattle.model.specs.Events.{answerNo, answerOf};
+ghost use Rattle.model.specs.Events.{answerNo, answerOf, allowance, denial};
 ghost use Rattle.model.specs.Answers.{plain, detailed};
 
 // 000's three sets (3.1), kept apart: a suite's number, 0 for no suite; a permission's; a domain's.
@@ -130,12 +130,24 @@ impl UserAnswer {
         ensures { λ r. ⌜ r ≡ answerOf n ⌝ }
     {
         if n <= Mode::BLANKET {
-            return match Mode::highest(n) {
-                Consent::UpTo(m) => UserAnswer::Allow(m),
-                Consent::Unasked => UserAnswer::None,
-            };
+            return UserAnswer::allowance(Mode::highest(n));
         }
-        match Mode::highest(n - Mode::BLANKET) {
+        UserAnswer::denial(Mode::highest(n - Mode::BLANKET))
+    }
+
+    fn allowance(c: Consent) -> UserAnswer
+        ensures { λ r. ⌜ r ≡ allowance c ⌝ }
+    {
+        match c {
+            Consent::UpTo(m) => UserAnswer::Allow(m),
+            Consent::Unasked => UserAnswer::None,
+        }
+    }
+
+    fn denial(c: Consent) -> UserAnswer
+        ensures { λ r. ⌜ r ≡ denial c ⌝ }
+    {
+        match c {
             Consent::UpTo(m) => UserAnswer::Deny(m),
             Consent::Unasked => UserAnswer::None,
         }
