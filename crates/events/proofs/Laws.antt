@@ -1,5 +1,5 @@
 -- A record compared byte by byte is a record compared number by number. Assumes nothing.
-use Prim.Native.Nat.{ℕ, zero, suc, _+_, _*_, _/_, _%_, _^_, _≤_, _<_}
+use Prim.Native.Nat.{ℕ, zero, suc, _+_, _/_, _%_, _^_, _≤_, _<_}
 use native.Mathlib.Nat.{add-zero, pow-zero, pow-succ'}
 use native.Mathlib.Numerals.{add-one}
 use native.Mathlib.Omega.{arith}
@@ -9,8 +9,9 @@ use mathlib.Core.List.{List, [], _∷_, _++_, append-nil}
 use lib.ListN.{length, getD, drop, drop-of-length-le}
 use lib.Seq.{drop-cons}
 use lib.Dec.{eqb, lit<}
-use borrow.Author.Tests.{eqb-true, eqb-false, eq-eqb, ne-eqb, ltb-true}
+use borrow.Author.Tests.{eq-eqb, ltb-true}
 use Rattle.words.specs.Numbers.{leAt, bytesOf}
+use Rattle.words.proofs.Numbers.{eqb-split}
 use Rattle.model.specs.declared.Event.{Event}
 use Rattle.model.specs.declared.Event.the-variants.{Unreadable, Install, Remove, Start, Terminate, Request}
 use Rattle.model.specs.Device.{isSuite, isDomain, isSet}
@@ -19,15 +20,6 @@ use Rattle.model.proofs.Tests.{both, all-three}
 use Rattle.model.proofs.RoundTrip.{number, same-equal}
 use Rattle.events.specs.declared.Fields.{Fields}
 use Rattle.events.specs.Fields.{fields, fieldsAt, fieldBytes, fieldsOf, eventOf, sameFields}
-
--- a byte and the rest of a number are compared as one
-eqb-split : (x b n : ℕ) → b < 256 → eqb x (b + 256 * n) ≡ (eqb (x % 256) b && eqb (x / 256) n)
-eqb-split x b n h = go (eqb (x % 256) b) (eqb (x / 256) n) refl refl
-  where
-    go : (s t : Bool) → eqb (x % 256) b ≡ s → eqb (x / 256) n ≡ t → eqb x (b + 256 * n) ≡ (s && t)
-    go true true p q = eq-eqb x (b + 256 * n) (omega (arith, eqb-true (x % 256) b p, eqb-true (x / 256) n q))
-    go true false p q = ne-eqb x (b + 256 * n) (λ e. eqb-false (x / 256) n q (omega arith))
-    go false t p q = ne-eqb x (b + 256 * n) (λ e. eqb-false (x % 256) b p (omega arith))
 
 equal-end : equal [] [] ≡ true
 unfolding equal

@@ -12,6 +12,7 @@ use Rattle.model.specs.declared.Response.{Response}
 use Rattle.model.specs.Events.{writeEvent, carried, readEvent, eventSize}
 use Rattle.model.specs.Answers.{refused, DONE, BAD-EVENT, BAD-LENGTH}
 use Rattle.model.specs.Calls.{leaving, writeCall}
+use Rattle.model.proofs.Calls.{one-outcome}
 use Rattle.model.proofs.RoundTrip.{written-back, read-back}
 
 pub read-unique : (bytes : List ℕ) {e e' : Event} → e ≡ readEvent bytes → e' ≡ readEvent bytes → e ≡ e'
@@ -19,7 +20,7 @@ read-unique bytes p q = p ∙ sym q
 
 module _ (event : Event) (entry : List ℕ) {exit : List ℕ} {r : Response} (wrote : leaving exit r ≡ writeCall event entry) where
   pub write-unique : {exit' : List ℕ} {r' : Response} → leaving exit' r' ≡ writeCall event entry → (exit ≡ exit') × (r ≡ r')
-  write-unique q = (ap (λ c. c .bytes) (wrote ∙ sym q), ap (λ c. c .response) (wrote ∙ sym q))
+  write-unique q = one-outcome wrote q
 
   -- refused, or done
   either : ((refused r ≡ true) × (exit ≡ entry)) ⊎ ((refused r ≡ false) × (carried event ≡ true) × (exit ≡ writeEvent event))

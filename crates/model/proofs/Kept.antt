@@ -49,6 +49,13 @@ session-undecided : (f : Fixed) (i : Suite) (x : Slot) → sessionDecided f (rec
 unfolding sessionDecided
 session-undecided f i x = every-all (fitsBeside f x undecided) (λ p l. rw (member-none (p .0)))
 
+pub clear-decided : (f : Fixed) (r : Session) (x : Slot) → clear (r .decisions) ≡ true → sessionDecided f r x ≡ true
+clear-decided f r x h =
+    let (g, v) = both (eqb (r .decisions .granted) 0) (eqb (r .decisions .revoked) 0) h in
+    let none : r .decisions ≡ undecided =
+    λ i. record { granted = eqb-true (r .decisions .granted) 0 g i; revoked = eqb-true (r .decisions .revoked) 0 v i } in
+    ap (λ d. sessionDecided f (record { suite = r .suite; decisions = d }) x) none ∙ session-undecided f (r .suite) x
+
 -- ---- an installed suite is right in itself
 
 sound-deciding : (f : Fixed) (g : Decisions → Decisions) (x : Slot) → same (x .suite) noSuite ≡ false
@@ -111,17 +118,12 @@ module _ (f : Fixed) (s : State) (v : valid f s ≡ true) where
   unfolding valid sessionValid sessionSound
   other-slots l e h k = rw (e, holds .count, h) (go (same (s .session .suite) noSuite) refl)
     where
-      zero : (d : Decisions) → clear d ≡ true → d ≡ undecided
-      zero d t =
-          let (a, b) = both (eqb (d .granted) 0) (eqb (d .revoked) 0) t in
-          λ i. record { granted = eqb-true (d .granted) 0 a i; revoked = eqb-true (d .revoked) 0 b i }
-
       go : (b : Bool) → same (s .session .suite) noSuite ≡ b
           → (cond b (clear (s .session .decisions)) (carries (s .session .suite) l)
           && sessionDecided f (s .session) (find (s .session .suite) l)) ≡ true
       go true t =
           let none = rw (t, sessionSound) at (holds .sound) in
-          rw (none, zero (s .session .decisions) none) (session-undecided f (s .session .suite) (find (s .session .suite) l))
+          rw (none, clear-decided f (s .session) (find (s .session .suite) l) none)
       go false t = rw (k (rw t) .0, k (rw t) .1)
 
   -- slot y, with nothing decided, in place of the first slot with number i, which does not run

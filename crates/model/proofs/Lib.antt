@@ -11,3 +11,4 @@ pub mod Right
 pub mod Kept
 pub mod Runs
 pub mod RoundTrip
+pub mod Calls

@@ -17,7 +17,7 @@ unfolding slotsFrom
 length-slots b zero a = refl
 length-slots b (suc n) a = ap suc (length-slots b n (a + recordSize))
 
-slots-right : (f : Fixed) (b : List ℕ) (lower : List Suite) (n a : ℕ) → slotsRight f b lower n a ≡ true
+pub slots-right : (f : Fixed) (b : List ℕ) (lower : List Suite) (n a : ℕ) → slotsRight f b lower n a ≡ true
     → slotsValid f lower (slotsFrom b n a) ≡ true
 unfolding slotsRight slotsValid slotsFrom
 slots-right f b lower zero a h = refl

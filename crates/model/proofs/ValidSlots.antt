@@ -15,7 +15,7 @@ use Rattle.model.specs.State.{free, carries, find, amend, place}
 use Rattle.model.specs.Valid.{slotSound, among, ownNumber, slotDecided}
 use Rattle.model.specs.Valid.{slotValid, slotsValid}
 use Rattle.model.specs.Step.{slotDeciding}
-use Rattle.model.proofs.Tests.{both, all-three}
+use Rattle.model.proofs.Tests.{both, all-three, cases}
 use Rattle.model.proofs.Slots.{same-suite}
 
 -- ---- the slots stay valid
@@ -55,6 +55,14 @@ module _ (f : Fixed) where
   put-together : (lower : List Suite) (x : Slot) (xs : List Slot) → SlotIs f lower x xs → slotsValid f lower (x ∷ xs) ≡ true
   unfolding slotsValid slotValid
   put-together lower x xs k = rw (k .sound, k .own, k .decided, k .more)
+
+  -- each slot is right in itself, and so is a free one
+  pub find-sound : (i : Suite) (lower : List Suite) (l : List Slot) → slotsValid f lower l ≡ true → slotSound f (find i l) ≡ true
+  unfolding find slotSound
+  find-sound i lower [] h = refl
+  find-sound i lower (x ∷ xs) h =
+      let k = taken-apart lower x xs h in
+      cases (λ y. slotSound f y ≡ true) (same (x .suite) i) (λ _. k .sound) (λ _. find-sound i (x .suite ∷ lower) xs (k .more))
 
   -- other numbers in the lower slots
   other-lower : (lower lower' : List Suite) (l : List Slot)

@@ -1,14 +1,21 @@
 -- The search for a slot by its number: what is left of it finds what all of it finds. Assumes nothing.
-use mathlib.Core.Path.{_≡_}
+use mathlib.Core.Path.{_≡_, ap, _∙_}
 use mathlib.Core.Bool.{cond}
 use mathlib.Core.List.{List}
 use Prim.Native.Nat.{ℕ, suc, _+_, _*_, _-_, _≤_, _<_}
 use native.Mathlib.Omega.{arith}
-use lib.Dec.{eqb}
+use lib.Dec.{eqb, ltb}
 use borrow.Author.Tests.{eq-eqb, ne-eqb}
 use Rattle.words.specs.Numbers.{leAt}
 use Rattle.model.specs.declared.Suite.{Suite}
-use Rattle.model.specs.State.{place, slotAt, slotsFrom}
+use Rattle.model.specs.State.{carries, place, slotAt, slotsFrom, readState}
+use Rattle.model.proofs.Slots.{carries-place}
+use Rattle.model.proofs.Right.{length-slots}
+
+-- the number stands in the slots exactly when its place is below 32
+pub carries-below : (b : List ℕ) (i : Suite) → carries i (readState b .slots) ≡ ltb (place i (readState b .slots)) 32
+unfolding readState
+carries-below b i = carries-place i (slotsFrom b 32 40) ∙ ap (ltb (place i (slotsFrom b 32 40))) (length-slots b 32 40)
 
 module _ (b : List ℕ) (i : Suite) (k : ℕ) where
   -- the place in the slots from k on

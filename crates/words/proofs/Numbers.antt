@@ -58,7 +58,7 @@ leAt-zero (suc w) s i e (suc k) l =
     let n : i + suc k ≡ i + 1 + k = omega arith in
     rw n (leAt-zero w s (i + 1) (omega arith) k (omega arith))
 
--- a number is 0 where its low a bytes and its high b bytes are
+-- a byte and the rest of a number are compared as one, with 0 and with another number
 zero-split : (x n : ℕ) → eqb (x + 256 * n) 0 ≡ (eqb x 0 && eqb n 0)
 zero-split x n = go (eqb x 0) (eqb n 0) refl refl
   where
@@ -67,6 +67,15 @@ zero-split x n = go (eqb x 0) (eqb n 0) refl refl
     go true false p q = ne-eqb (x + 256 * n) 0 (λ e. eqb-false n 0 q (omega arith))
     go false t p q = ne-eqb (x + 256 * n) 0 (λ e. eqb-false x 0 p (omega arith))
 
+pub eqb-split : (x b n : ℕ) → b < 256 → eqb x (b + 256 * n) ≡ (eqb (x % 256) b && eqb (x / 256) n)
+eqb-split x b n h = go (eqb (x % 256) b) (eqb (x / 256) n) refl refl
+  where
+    go : (s t : Bool) → eqb (x % 256) b ≡ s → eqb (x / 256) n ≡ t → eqb x (b + 256 * n) ≡ (s && t)
+    go true true p q = eq-eqb x (b + 256 * n) (omega (arith, eqb-true (x % 256) b p, eqb-true (x / 256) n q))
+    go true false p q = ne-eqb x (b + 256 * n) (λ e. eqb-false (x / 256) n q (omega arith))
+    go false t p q = ne-eqb x (b + 256 * n) (λ e. eqb-false (x % 256) b p (omega arith))
+
+-- a number is 0 where its low a bytes and its high b bytes are
 pub leAt-zeros : (a b : ℕ) (s : List ℕ) (i : ℕ) → eqb (leAt (a + b) s i) 0 ≡ (eqb (leAt a s i) 0 && eqb (leAt b s (i + a)) 0)
 unfolding leAt
 leAt-zeros zero b s i = rw (zero-add, add-zero)

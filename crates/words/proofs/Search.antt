@@ -1,8 +1,8 @@
--- Walks over numbers. A loop that walks i up to e keeps `whole ≡ firstFrom f (e - i) i`, or the same of `allFrom`: the
--- laws `-go`, `-stop` and `-done` take that to the next turn or to the answer. Assumes nothing.
+-- Walks over numbers. A loop that walks i up to e keeps `whole ≡ firstFrom f (e - i) i`, or the like of `allFrom`: the laws
+-- `-go`, `-stop` and `-done` take that to the next turn or to the answer. Assumes nothing.
 use mathlib.Core.Path.{_≡_, refl, sym, _∙_}
 use mathlib.Core.Logic.{⊎-elim}
-use mathlib.Core.Bool.{Bool, true, false, cond, and-eq-true-iff}
+use mathlib.Core.Bool.{Bool, true, false, _&&_, cond, and-eq-true-iff, and-assoc, and-true}
 use Prim.Native.Nat.{ℕ, zero, suc, _+_, _-_, _≤_, _<_}
 use native.Mathlib.Nat.{eq-or-lt-of-le}
 use native.Mathlib.Numerals.{add-one}
@@ -28,17 +28,15 @@ module _ (f : ℕ → Bool) (e i : ℕ) where
   unfolding firstFrom
   firstFrom-done w l = sym (w ∙ rw (over l))
 
-  pub allFrom-go : {whole : Bool} → whole ≡ allFrom f (e - i) i → i < e → f i ≡ true → whole ≡ allFrom f (e - (i + 1)) (i + 1)
+  -- a loop that tests them all and keeps in `right` whether each has passed
+  pub allFrom-go : {whole : Bool} (right : Bool) → whole ≡ (right && allFrom f (e - i) i) → i < e
+      → whole ≡ ((right && f i) && allFrom f (e - (i + 1)) (i + 1))
   unfolding allFrom
-  allFrom-go w l h = w ∙ rw (turn l, h, add-one)
+  allFrom-go right w l = w ∙ rw (turn l, add-one, and-assoc right (f i) (allFrom f (e - suc i) (suc i)))
 
-  pub allFrom-stop : {whole : Bool} → whole ≡ allFrom f (e - i) i → i < e → f i ≡ false → false ≡ whole
+  pub allFrom-done : {whole : Bool} (right : Bool) → whole ≡ (right && allFrom f (e - i) i) → e ≤ i → right ≡ whole
   unfolding allFrom
-  allFrom-stop w l h = sym (w ∙ rw (turn l, h))
-
-  pub allFrom-done : {whole : Bool} → whole ≡ allFrom f (e - i) i → e ≤ i → true ≡ whole
-  unfolding allFrom
-  allFrom-done w l = sym (w ∙ rw (over l))
+  allFrom-done right w l = sym (w ∙ rw (over l, and-true right))
 
 pub firstFrom-le : (f : ℕ → Bool) (n i : ℕ) → firstFrom f n i ≤ i + n
 unfolding firstFrom

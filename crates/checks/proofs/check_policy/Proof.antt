@@ -1,20 +1,22 @@
 use mathlib.Core.Path.{_≡_}
+use mathlib.Core.Bool.{_&&_}
 use Prim.Native.Nat.{_-_, _≤_}
 use lib.ListN.{getD}
 use lib.Dec.{leb}
 use borrow.Author.Needs.{needs}
-use borrow.Author.Tests.{eq-eqb, ne-eqb, le-leb, lt-leb}
+use borrow.Author.Tests.{eq-eqb, ne-eqb}
 use Rattle.words.specs.Search.{allFrom}
-use Rattle.words.proofs.Search.{allFrom-go, allFrom-stop, allFrom-done}
+use Rattle.words.proofs.Search.{allFrom-go, allFrom-done}
 use Rattle.model.specs.Policy.{policyRight}
 use Rattle.checks.proofs.check_policy.Statement.{statement}
 use Rattle.checks.proofs.check_policy.Tie as tie
 
 abbrev Inv-loop : tie.InvT-loop
-Inv-loop policy i₀ i = (i ≤ 512) × (policyRight policy ≡ allFrom (λ k. leb (getD policy k 0) 4) (512 - i) i)
+Inv-loop policy right₀ i₀ right i =
+    (i ≤ 512) × (policyRight policy ≡ (right && allFrom (λ k. leb (getD policy k 0) 4) (512 - i) i))
 
 abbrev μ-loop : tie.MeasureT-loop
-μ-loop policy i₀ i = 512 - i
+μ-loop policy right₀ i₀ right i = 512 - i
 
 returns : tie.Need-returns Inv-loop μ-loop
 unfolding policyRight
@@ -24,21 +26,15 @@ loop-holds : tie.Need-loop-holds Inv-loop μ-loop
 unfolding policyRight
 loop-holds c = (search needs, rw (eq-eqb _ _ (c .if1 .left)))
 
-returns-2 : tie.Need-returns-2 Inv-loop μ-loop
-returns-2 c =
-    let l = c .before .before .before .loop in
-    allFrom-stop _ _ _ (l .inv .1) (search needs) (lt-leb _ _ (c .if2 .taken))
-
 loop-again : tie.Need-loop-again Inv-loop μ-loop
 loop-again c =
-    let l = c .before .before .before .loop in
-    (search needs, allFrom-go _ _ _ (l .inv .1) (search needs) (le-leb _ _ (c .if2 .left)))
+    let l = c .before .before .loop in
+    (search needs, allFrom-go _ 512 (l .i) (l .right) (l .inv .1) (search needs))
 
-returns-3 : tie.Need-returns-3 Inv-loop μ-loop
-returns-3 c = allFrom-done _ _ _ (c .before .loop .inv .1) (c .loop-test .left)
+returns-2 : tie.Need-returns-2 Inv-loop μ-loop
+returns-2 c = let l = c .before .loop in allFrom-done _ 512 (l .i) (l .right) (l .inv .1) (c .loop-test .left)
 
 pub check-policy-spec : {M : Type 1} → statement M
 check-policy-spec =
     tie.close
-    (tie.spec Inv-loop μ-loop returns loop-holds (λ c. search needs) returns-2 (λ c. search needs) (λ c. search needs)
-    loop-again returns-3)
+    (tie.spec Inv-loop μ-loop returns loop-holds (λ c. search needs) (λ c. search needs) (λ c. search needs) loop-again returns-2)

@@ -9,7 +9,7 @@ unfolding newCall
 returns c =
     let d = c .before .before .before in
     let t = d .before .before in
-    rw (eq-eqb _ _ (t .if1 .taken), c .plain .ensures, d .clear .ensures, t .if1 .taken)
+    rw (eq-eqb _ _ (t .if1 .taken), c .plain .ensures, d .wipe .ensures, t .if1 .taken)
 
 returns-2 : tie.Need-returns-2
 unfolding newCall

@@ -5,8 +5,8 @@ use native.Mathlib.Omega.{arith}
 use lib.ListN.{length, drop, replicate, length-set, drop-of-length-le}
 use borrow.Author.Fill.{fill-more}
 use borrow.Author.Needs.{needs}
-use Rattle.checks.proofs.clear.Statement.{statement}
-use Rattle.checks.proofs.clear.Tie as tie
+use Rattle.checks.proofs.wipe.Statement.{statement}
+use Rattle.checks.proofs.wipe.Tie as tie
 
 abbrev Inv-loop : tie.InvT-loop
 Inv-loop bytes₀ i₀ bytes i = (i ≤ length bytes₀) × (length bytes ≡ length bytes₀) × (bytes ≡ replicate i 0 ++ drop i bytes₀)
@@ -30,8 +30,8 @@ returns c =
     let e : l .i ≡ length d = omega arith in
     l .inv .2 ∙ rw (e, drop-of-length-le d {i = length d} (search needs), append-nil)
 
-pub clear-spec : {M : Type 1} → statement M
-clear-spec =
+pub wipe-spec : {M : Type 1} → statement M
+wipe-spec =
     tie.close
     (tie.spec Inv-loop μ-loop loop-holds (λ c. search needs) (λ c. search needs) (λ c. search needs) loop-again
     (λ c. search needs) returns)

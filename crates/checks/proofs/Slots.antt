@@ -1,0 +1,147 @@
+-- A slot and a session against the sets of their domain's row, and the walk over the slots. Assumes nothing.
+use mathlib.Core.Path.{_≡_, ap, sym, _∙_}
+use mathlib.Core.Bool.{Bool, true, false, not, _&&_, _||_, cond, and-false, and-assoc}
+use mathlib.Core.List.{List}
+use Prim.Native.Nat.{ℕ, suc, _+_, _-_, _*_, _^_, _≤_, _<_}
+use native.Mathlib.Numerals.{add-one}
+use native.Mathlib.Omega.{arith}
+use lib.Bits.{bitAnd, bitOr}
+use lib.Dec.{eqb}
+use borrow.Author.Tests.{lt-ltb, le-ltb, eq-eqb, ne-eqb, eqb-true}
+use Rattle.words.specs.Numbers.{leAt}
+use Rattle.words.proofs.Sets.{member-or, member-and}
+use Rattle.model.specs.declared.Permission.{Permission}
+use Rattle.model.specs.declared.Suite.{Suite}
+use Rattle.model.specs.declared.Mode.{Mode}
+use Rattle.model.specs.declared.Mode.the-variants.{Oneshot}
+use Rattle.model.specs.declared.Decisions.{Decisions}
+use Rattle.model.specs.declared.Slot.{Slot}
+use Rattle.model.specs.Device.{has, every, isSuite, isDomain, noSuite, same}
+use Rattle.model.specs.Policy.{Fixed, offered, admits}
+use Rattle.model.specs.State.{slotAt, slotZeros}
+use Rattle.model.specs.Valid.{_⇒_, declared, fits, allRight, blank, among, ownNumber}
+use Rattle.model.specs.Valid.{slotSound, installable, slotDecided, slotValid, slotsRight}
+use Rattle.model.proofs.Tests.{both}
+use Rattle.checks.specs.Rows.{those, admitting, rowOf}
+use Rattle.checks.specs.Walk.{lowerOf, slotRight}
+use Rattle.checks.proofs.Sets.{every-same, every-both, those-has}
+
+-- ---- decisions by words
+
+abbrev declaredSet : Slot → ℕ
+declaredSet x = bitOr (x .descriptor .required) (x .descriptor .optional)
+
+-- of a declared permission whose cell admits a mode
+declared-has : (f : Fixed) (x : Slot) (m : Mode) (p : Permission) → p .0 < 64
+    → has (bitAnd (declaredSet x) (admitting f (x .domain) m)) p ≡ (declared x p && admits (f .cell (x .domain) p) m)
+unfolding declared admitting
+declared-has f x m p l = rw (member-and, member-or, those-has (λ q. admits (f .cell (x .domain) q) m) p l)
+
+-- two words
+abbrev pub Small : Decisions → Type 0
+Small d = (d .granted < 2 ^ 64) × (d .revoked < 2 ^ 64)
+
+pub sets-right : (d : Decisions) → Small d → (t : Permission → Bool) → every t ≡ allRight d t
+sets-right d small t = rw (lt-ltb (d .granted) (2 ^ 64) (small .0), lt-ltb (d .revoked) (2 ^ 64) (small .1))
+
+module _ (f : Fixed) (x : Slot) (m : Mode) (d : Decisions) (small : Small d) where
+  pub fits-words :
+      (every (λ p. has (d .granted) p ⇒ has (bitAnd (declaredSet x) (admitting f (x .domain) m)) p)
+      && (every (λ p. has (d .revoked) p ⇒ has (bitAnd (declaredSet x) (admitting f (x .domain) Oneshot)) p)
+      && every (λ p. not (has (d .granted) p && has (d .revoked) p)))) ≡ allRight d (fits f x m d)
+  fits-words =
+      let granted : Permission → Bool = λ p. has (d .granted) p ⇒ has (bitAnd (declaredSet x) (admitting f (x .domain) m)) p in
+      let revoked : Permission → Bool = λ p. has (d .revoked) p ⇒ has (bitAnd (declaredSet x) (admitting f (x .domain) Oneshot)) p in
+      let one : Permission → Bool = λ p. not (has (d .granted) p && has (d .revoked) p) in
+      ap (λ b. every granted && b) (every-both revoked one) ∙ every-both granted (λ p. revoked p && one p)
+      ∙ every-same (λ p. granted p && (revoked p && one p)) (fits f x m d)
+      (λ p l. rw (declared-has f x m p l, declared-has f x Oneshot p l)) ∙ sets-right d small (fits f x m d)
+
+-- ---- the numbers of the lower slots
+
+module _ (b : List ℕ) (i : Suite) (j : ℕ) (l : 0 < j) where
+  lower-turn : among i (lowerOf b j) ≡ (eqb (i .0) (leAt 2 b (40 + 40 * (j - 1))) || among i (lowerOf b (j - 1)))
+  unfolding lowerOf among slotAt
+  lower-turn = let e : j ≡ suc (j - 1) = omega arith in ap (λ n. among i (lowerOf b n)) e
+
+  -- the highest of them has the number
+  pub lower-hit : leAt 2 b (40 + 40 * (j - 1)) ≡ i .0 → among i (lowerOf b j) ≡ true
+  lower-hit h = lower-turn ∙ rw (eq-eqb _ _ (sym h))
+
+  pub lower-pass : (leAt 2 b (40 + 40 * (j - 1)) ≡ i .0 → ⊥) → among i (lowerOf b j) ≡ among i (lowerOf b (j - 1))
+  lower-pass h = lower-turn ∙ rw (ne-eqb _ _ (λ e. h (sym e)))
+
+-- ---- a slot in itself
+
+module _ (f : Fixed) (x : Slot) where
+  pub sound-free : x .suite .0 ≡ 0 → slotSound f x ≡ blank x
+  unfolding slotSound
+  sound-free e = rw (eq-eqb _ _ e)
+
+  pub sound-astray : (x .suite .0 ≡ 0 → ⊥) → 8 ≤ x .domain .0 → slotSound f x ≡ false
+  unfolding slotSound installable
+  sound-astray n h = rw (ne-eqb _ _ n, le-ltb (x .domain .0) 8 h) (and-false (isSuite (x .suite)))
+
+  pub sound-words : (x .suite .0 ≡ 0 → ⊥) → x .domain .0 < 8 → x .suite .0 < 65536 → x .descriptor .required < 2 ^ 64
+      → x .descriptor .optional < 2 ^ 64
+      → every (λ p. has (x .descriptor .required) p ⇒ has (rowOf f (x .domain) .offered) p) ≡ slotSound f x
+  unfolding slotSound installable rowOf
+  sound-words n h s r o =
+      let t : Permission → Bool = λ p. offered (f .cell (x .domain) p) in
+      let q = x .descriptor .required in
+      rw (ne-eqb _ _ n, lt-ltb 0 (x .suite .0) (omega arith), lt-ltb _ _ s, lt-ltb _ _ h, lt-ltb _ _ r, lt-ltb _ _ o)
+      (every-same (λ p. has q p ⇒ has (those t) p) (λ p. has q p ⇒ t p) (λ p l. ap (λ b. has q p ⇒ b) (those-has t p l)))
+
+  -- its domain has a row
+  pub sound-domain : slotSound f x ≡ true → isDomain (x .domain) ≡ true
+  unfolding slotSound installable
+  sound-domain h = go (same (x .suite) noSuite) h
+    where
+      go : (b : Bool) → cond b (blank x) (installable f x) ≡ true → isDomain (x .domain) ≡ true
+      go true e = rw (eqb-true (x .domain .0) 0 (both (eqb (x .domain .0) 0) _ e .0))
+      go false e = both (isDomain (x .domain)) _ (both (isSuite (x .suite)) _ e .1) .0
+
+-- ---- slot k of the bytes
+
+module _ (f : Fixed) (b : List ℕ) (k : ℕ) where
+  pub right-nonzero : slotZeros b (40 + 40 * k) ≡ false → false ≡ slotRight f b k
+  unfolding slotRight
+  right-nonzero e = sym (rw e)
+
+  module _ (x : Slot) (e : x ≡ slotAt b (40 + 40 * k)) (zeros : slotZeros b (40 + 40 * k) ≡ true) where
+    pub right-unsound : slotSound f x ≡ false → false ≡ slotRight f b k
+    unfolding slotRight slotValid
+    right-unsound h = sym (rw (zeros, ← e, h))
+
+    pub right-again : slotSound f x ≡ true → ownNumber (lowerOf b k) (x .suite) ≡ false → false ≡ slotRight f b k
+    unfolding slotRight slotValid
+    right-again s h = sym (rw (zeros, ← e, s, h))
+
+    pub right-decided : slotSound f x ≡ true → ownNumber (lowerOf b k) (x .suite) ≡ true → slotDecided f x ≡ slotRight f b k
+    unfolding slotRight slotValid
+    right-decided s h = sym (rw (zeros, ← e, s, h))
+
+-- ---- the walk
+
+module _ (f : Fixed) (b : List ℕ) (k : ℕ) where
+  -- the slots from k on are right
+  abbrev pub rest : Bool
+  rest = slotsRight f b (lowerOf b k) (32 - k) (40 + 40 * k)
+
+  turn : k < 32 → rest ≡ (slotRight f b k && slotsRight f b (lowerOf b (k + 1)) (32 - (k + 1)) (40 + 40 * (k + 1)))
+  unfolding slotsRight slotRight lowerOf
+  turn l =
+      let n : 32 - k ≡ suc (32 - (k + 1)) = omega arith in
+      let p : 40 + 40 * k + 40 ≡ 40 + 40 * (k + 1) = omega arith in
+      rw (n, p, add-one) (sym (and-assoc (slotZeros b (40 + 40 * k)) (slotValid f (lowerOf b k) (slotAt b (40 + 40 * k))) _))
+
+  pub walk-go : {whole : Bool} → whole ≡ rest → k < 32 → slotRight f b k ≡ true
+      → whole ≡ slotsRight f b (lowerOf b (k + 1)) (32 - (k + 1)) (40 + 40 * (k + 1))
+  walk-go w l h = w ∙ turn l ∙ rw h
+
+  pub walk-stop : {whole : Bool} → whole ≡ rest → k < 32 → slotRight f b k ≡ false → false ≡ whole
+  walk-stop w l h = sym (w ∙ turn l ∙ rw h)
+
+  pub walk-done : {whole : Bool} → whole ≡ rest → 32 ≤ k → true ≡ whole
+  unfolding slotsRight
+  walk-done w l = let n : 32 - k ≡ 0 = omega arith in sym (w ∙ rw n)
