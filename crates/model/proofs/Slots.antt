@@ -78,6 +78,14 @@ module _ (g : Decisions → Decisions) where
       (λ b. carries j (cond b (slotDeciding g x ∷ xs) (x ∷ amend i (slotDeciding g) xs)) ≡ (same (x .suite) j || carries j xs))
       [ true ↦ refl | false ↦ ap (λ t. same (x .suite) j || t) (carries-deciding i j xs) ]
 
+  pub place-deciding : (i j : Suite) (l : List Slot) → place j (amend i (slotDeciding g) l) ≡ place j l
+  unfolding amend place
+  place-deciding i j [] = refl
+  place-deciding i j (x ∷ xs) =
+      elim (same (x .suite) i) as
+      (λ b. place j (cond b (slotDeciding g x ∷ xs) (x ∷ amend i (slotDeciding g) xs)) ≡ cond (same (x .suite) j) 0 (suc (place j xs)))
+      [ true ↦ refl | false ↦ ap (λ n. cond (same (x .suite) j) 0 (suc n)) (place-deciding i j xs) ]
+
   pub find-deciding : (i : Suite) (l : List Slot) → carries i l ≡ true
       → find i (amend i (slotDeciding g) l) ≡ slotDeciding g (find i l)
   unfolding amend carries find

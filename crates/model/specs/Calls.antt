@@ -67,8 +67,8 @@ pub record Ran : Type 0 where
   pub state : List ℕ
   pub output : List ℕ
 
-abbrev pub unrun : (state output : List ℕ) → Response → Ran
-unrun b out r = record { response = r; count = 0; state = b; output = out }
+abbrev pub counted : Response → (count : ℕ) → (state output : List ℕ) → Ran
+counted r n b out = record { response = r; count = n; state = b; output = out }
 
 -- n event records, from the i-th
 unfoldable pub eventsFrom : List ℕ → ℕ → ℕ → List Event
@@ -92,9 +92,9 @@ runCall policy b es out =
     let f = fixedBy policy in
     let s = readState b in
     let events = eventsFrom es n 0 in
-    cond (refused r) (unrun b out r)
-    (cond (not (eqb (length es % eventSize) 0 && eqb (length out) (answerSize * n))) (unrun b out BAD-LENGTH)
-    (record { response = DONE; count = n; state = writeState (after f s events); output = outputOf (responses f s events) }))
+    cond (refused r) (counted r 0 b out)
+    (cond (not (eqb (length es % eventSize) 0 && eqb (length out) (answerSize * n))) (counted BAD-LENGTH 0 b out)
+    (counted DONE n (writeState (after f s events)) (outputOf (responses f s events))))
 
 -- "find, which answers with a number (16, 17, then 21; suite 0 gives 21)"
 unfoldable pub findCall : (policy state : List ℕ) → Suite → Response

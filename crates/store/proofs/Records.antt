@@ -81,7 +81,7 @@ slot-beside l a vs b h =
       decisions = record { granted = at 8 24 (omega arith) k; revoked = at 8 32 (omega arith) k };
     }
 
-slot-stored : (l : List ℕ) (a : ℕ) (x : Slot) → SlotFits x → a + 40 ≤ length l → slotAt (sets l a (slotBytes x)) a ≡ x
+pub slot-stored : (l : List ℕ) (a : ℕ) (x : Slot) → SlotFits x → a + 40 ≤ length l → slotAt (sets l a (slotBytes x)) a ≡ x
 slot-stored l a x z h = slot-in l a (slotBytes x) (length-slot x) h ∙ slot-back x z
 
 -- ---- the slots

@@ -1,0 +1,137 @@
+-- A run is its events one after another: it is `step` called on each record in turn, and a run of some events and then of others
+-- is the run of all. Assumes nothing.
+use mathlib.Core.Path.{_≡_, refl, ap, ap₂, _∙_}
+use mathlib.Core.Bool.{true, false}
+use mathlib.Core.List.{List, _∷_, _++_}
+use Prim.Native.Nat.{ℕ, zero, suc, _+_, _*_, _/_, _%_, _≤_, _<_}
+use native.Mathlib.Nat.{add-zero, zero-add, suc-add}
+use native.Mathlib.Omega.{arith}
+use lib.ListN.{length, getD, take, drop, length-append, length-drop}
+use lib.Seq.{drop-append-le, drop-append-add, take-append-le}
+use borrow.Author.Tests.{eq-eqb}
+use Rattle.model.specs.Policy.{Fixed, fixedBy, policyRight}
+use Rattle.model.specs.State.{State, readState, writeState}
+use Rattle.model.specs.Valid.{valid}
+use Rattle.model.specs.Events.{readEvent}
+use Rattle.model.specs.Answers.{refused, DONE}
+use Rattle.model.specs.Step.{step}
+use Rattle.model.specs.Run.{after, responses}
+use Rattle.model.specs.Calls.{leaving, checkCall, stepCall, eventsFrom, outputOf, runCall, counted}
+use Rattle.model.proofs.Right.{right-valid}
+use Rattle.model.proofs.Kept.{record-kept, run-kept}
+use Rattle.model.proofs.Runs.{after-append, responses-append}
+use Rattle.model.proofs.Calls.{passed}
+use Rattle.store.proofs.Zeros.{right-formed}
+use Rattle.store.proofs.Written.{valid-right, valid-holds}
+use Rattle.monitor.specs.InTurn.{recordsFrom, stepsCall}
+use Rattle.monitor.proofs.Laws.{Whole, whole-parts}
+use Rattle.monitor.proofs.Runs.{output-append}
+
+module _ (policy : List ℕ) (right : policyRight policy ≡ true) where
+  abbrev f : Fixed
+  f = fixedBy policy
+
+  -- the bytes of a valid state pass the check
+  pub valid-passes : (s : State) → valid f s ≡ true → checkCall policy (writeState s) ≡ DONE
+  unfolding checkCall
+  valid-passes s v = rw (right, valid-right f s v)
+
+  step-written : (s : State) → valid f s ≡ true → (e : List ℕ)
+      → stepCall policy (writeState s) e ≡ leaving (writeState (step f s (readEvent e) .state)) (step f s (readEvent e) .response)
+  unfolding stepCall
+  step-written s v e = rw (valid-passes s v, valid-holds f s v .read)
+
+  steps-written : (es : List ℕ) (n i : ℕ) (s : State) → valid f s ≡ true
+      → stepsCall policy (writeState s) (recordsFrom es n i)
+      ≡ record { state = writeState (after f s (eventsFrom es n i)); responses = responses f s (eventsFrom es n i) }
+  unfolding recordsFrom stepsCall eventsFrom after responses
+  steps-written es zero i s v = refl
+  steps-written es (suc n) i s v =
+      let e = take 24 (drop (24 * i) es) in
+      rw (step-written s v e, steps-written es n (suc i) (step f s (readEvent e) .state) (record-kept f s v e))
+
+module _ (policy b es out : List ℕ) (bytes : (k : ℕ) → getD b k 0 < 256) (good : refused (checkCall policy b) ≡ false) where
+  -- "a run is its events one after another"
+  pub run-in-turn : Whole policy b es out ≡ true
+      → let each = stepsCall policy b (recordsFrom es (length es / 24) 0) in
+      runCall policy b es out ≡ counted DONE (length es / 24) (each .state) (outputOf (each .responses))
+  unfolding runCall
+  run-in-turn h =
+      let n = length es / 24 in
+      let p = passed policy b good in
+      let f = fixedBy policy in
+      let s = readState b in
+      let whole = right-formed b bytes f (p .state-right) in
+      let e = ap (λ l. stepsCall policy l (recordsFrom es n 0)) (whole .written)
+      ∙ steps-written policy (p .policy-right) es n 0 s (right-valid f b (p .state-right)) in
+      rw (good, h, e)
+
+-- ---- some records and then others
+
+-- they lie in the first list
+events-front : (a b : List ℕ) (n i : ℕ) → 24 * (i + n) ≤ length a → eventsFrom (a ++ b) n i ≡ eventsFrom a n i
+unfolding eventsFrom
+events-front a b zero i l = refl
+events-front a b (suc n) i l =
+    let here : take 24 (drop (24 * i) (a ++ b)) ≡ take 24 (drop (24 * i) a) =
+    rw (drop-append-le (24 * i) a b (omega arith)) (take-append-le 24 (drop (24 * i) a) b (rw length-drop (omega arith))) in
+    ap₂ _∷_ (ap readEvent here) (events-front a b n (suc i) (omega arith))
+
+-- they lie behind it
+events-behind : (a b : List ℕ) (m n i : ℕ) → length a ≡ 24 * m → eventsFrom (a ++ b) n (m + i) ≡ eventsFrom b n i
+unfolding eventsFrom
+events-behind a b m zero i e = refl
+events-behind a b m (suc n) i e =
+    let k : 24 * (m + i) ≡ length a + 24 * i = omega arith in
+    let next : suc (m + i) ≡ m + suc i = omega arith in
+    let here : drop (24 * (m + i)) (a ++ b) ≡ drop (24 * i) b = rw k (drop-append-add a b (24 * i)) in
+    ap₂ _∷_ (ap (λ l. readEvent (take 24 l)) here) (rw next (events-behind a b m n (suc i) e))
+
+events-split : (b : List ℕ) (m n i : ℕ) → eventsFrom b (m + n) i ≡ eventsFrom b m i ++ eventsFrom b n (i + m)
+unfolding eventsFrom
+events-split b zero n i = rw (zero-add, add-zero)
+events-split b (suc m) n i =
+    let e : suc i + m ≡ i + suc m = omega arith in
+    rw suc-add (ap (λ es. readEvent (take 24 (drop (24 * i) b)) ∷ es) (rw (← e) (events-split b m n (suc i))))
+
+events-append : (a b : List ℕ) (m n : ℕ) → length a ≡ 24 * m → eventsFrom (a ++ b) (m + n) 0 ≡ eventsFrom a m 0 ++ eventsFrom b n 0
+events-append a b m n e =
+    let z : 0 + m ≡ m + 0 = omega arith in
+    events-split (a ++ b) m n 0
+    ∙ ap₂ _++_ (events-front a b m 0 (omega arith)) (ap (eventsFrom (a ++ b) n) z ∙ events-behind a b m n 0 e)
+
+module _ (policy b : List ℕ) (bytes : (k : ℕ) → getD b k 0 < 256) (good : refused (checkCall policy b) ≡ false)
+    (es fs out more : List ℕ) (first : Whole policy b es out ≡ true) (second : Whole policy b fs more ≡ true) where
+  pub run-append : let one = runCall policy b es out in
+      let two = runCall policy (one .state) fs more in
+      runCall policy b (es ++ fs) (out ++ more) ≡ counted DONE (one .count + two .count) (two .state) (one .output ++ two .output)
+  unfolding runCall
+  run-append =
+      let p = passed policy b good in
+      let f = fixedBy policy in
+      let s = readState b in
+      let m = length es / 24 in
+      let n = length fs / 24 in
+      let t = after f s (eventsFrom es m 0) in
+      let v = run-kept f s (right-valid f b (p .state-right)) es m 0 in
+      let (se, oe) = whole-parts policy b es out first in
+      let (sf, of) = whole-parts policy b fs more second in
+      let count : (length es + length fs) / 24 ≡ m + n = omega arith in
+      let even : (length es + length fs) % 24 ≡ 0 = omega arith in
+      let size : length out + length more ≡ 2 * (m + n) = omega arith in
+      rw (
+        good,
+        first,
+        valid-passes policy (p .policy-right) t v,
+        second,
+        valid-holds f t v .read,
+        length-append,
+        length-append,
+        count,
+        even,
+        eq-eqb _ _ size,
+        events-append es fs m n (omega arith),
+        after-append f s (eventsFrom es m 0) (eventsFrom fs n 0),
+        responses-append f s (eventsFrom es m 0) (eventsFrom fs n 0),
+        output-append (responses f s (eventsFrom es m 0)),
+      )

@@ -1,0 +1,4 @@
+pub mod Laws
+pub mod Runs
+pub mod InTurn
+pub mod Outcomes
