@@ -12,3 +12,5 @@ pub mod Kept
 pub mod Runs
 pub mod RoundTrip
 pub mod Calls
+pub mod Isolation
+pub mod Faulty

@@ -8,3 +8,4 @@ pub mod Decision
 pub mod Step
 pub mod Run
 pub mod Calls
+pub mod Isolation

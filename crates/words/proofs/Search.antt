@@ -38,25 +38,6 @@ module _ (f : ℕ → Bool) (e i : ℕ) where
   unfolding allFrom
   allFrom-done right w l = sym (w ∙ rw (over l, and-true right))
 
-pub firstFrom-le : (f : ℕ → Bool) (n i : ℕ) → firstFrom f n i ≤ i + n
-unfolding firstFrom
-firstFrom-le f zero i = omega arith
-firstFrom-le f (suc n) i = go (f i) (firstFrom f n (suc i)) (firstFrom-le f n (suc i))
-  where
-    go : (b : Bool) (x : ℕ) → x ≤ suc i + n → cond b i x ≤ i + suc n
-    go true x r = omega arith
-    go false x r = omega arith
-
--- the number that is found passes
-pub firstFrom-below : (f : ℕ → Bool) (n i : ℕ) → firstFrom f n i < i + n → f (firstFrom f n i) ≡ true
-unfolding firstFrom
-firstFrom-below f zero i l = absurd (omega arith)
-firstFrom-below f (suc n) i l = go (f i) (firstFrom f n (suc i)) refl (firstFrom-below f n (suc i)) l
-  where
-    go : (b : Bool) (x : ℕ) → f i ≡ b → (x < suc i + n → f x ≡ true) → cond b i x < i + suc n → f (cond b i x) ≡ true
-    go true x e r l = e
-    go false x e r l = r (omega arith)
-
 -- every number before it fails
 pub firstFrom-none : (f : ℕ → Bool) (n i k : ℕ) → i ≤ k → k < firstFrom f n i → f k ≡ false
 unfolding firstFrom

@@ -1,14 +1,14 @@
 -- Sets of permissions: what each operation does to each member. Assumes nothing.
 use mathlib.Core.Path.{_≡_, refl, ap, ap₂, sym, _∙_}
 use mathlib.Core.Bool.{Bool, true, false, not, _&&_, _||_, cond, or-comm, and-comm}
-use Prim.Native.Nat.{ℕ, zero, suc, _+_, _-_, _*_, _/_, _%_, _^_, _≤_, _<_, min, max}
-use native.Mathlib.Nat.{pow-succ', div-one, div-div-eq-div-mul, zero-div, div-eq-of-lt, lt-of-lt-of-le}
+use Prim.Native.Nat.{ℕ, zero, suc, _+_, _-_, _*_, _/_, _%_, _^_, _<_, min, max}
+use native.Mathlib.Nat.{pow-succ', div-one, div-div-eq-div-mul, zero-div}
 use native.Mathlib.Numerals.{one-add}
 use native.Mathlib.Omega.{arith}
 use borrow.Author.Tests.{eqb-true, eqb-false}
 use lib.Bits.{bitAnd, bitOr, and-step, or-step, or-lt, and-high, and-le-l}
 use lib.Dec.{eqb, eqb·zero-suc, eqb·suc-zero, eqb·suc-suc}
-use lib.Pow.{pow-lt, pow-mono}
+use lib.Pow.{pow-lt}
 use Rattle.words.specs.Sets.{bit, member, insert, remove}
 
 pub bit-zero : (s : ℕ) → bit s 0 ≡ s % 2
@@ -35,11 +35,6 @@ bit-member s p = go (eqb (bit s p) 1) refl
 pub member-none : (p : ℕ) → member 0 p ≡ false
 unfolding member bit
 member-none p = rw zero-div
-
--- a set of k permissions has no member from k on
-pub member-above : (k s p : ℕ) → s < 2 ^ k → k ≤ p → member s p ≡ false
-unfolding member bit
-member-above k s p h l = rw (div-eq-of-lt (lt-of-lt-of-le h (pow-mono l)))
 
 -- two sets of k permissions with the same members are equal
 pub extensional : (k s t : ℕ) → s < 2 ^ k → t < 2 ^ k → ((p : ℕ) → p < k → member s p ≡ member t p) → s ≡ t
@@ -119,7 +114,3 @@ member-remove s p q = rw (remove-and, member-less, member-one) (and-comm (member
 pub insert-lt : (k s p : ℕ) → s < 2 ^ k → p < k → insert s p < 2 ^ k
 unfolding insert
 insert-lt k s p h l = or-lt k s (2 ^ p) h (pow-lt l)
-
-pub remove-lt : (k s p : ℕ) → s < 2 ^ k → remove s p < 2 ^ k
-unfolding remove
-remove-lt k s p h = omega arith

@@ -1,15 +1,15 @@
 -- Stores: a run of bytes `vs` stored into a list from place i on is `sets l i vs`. Assumes nothing.
-use mathlib.Core.Path.{_≡_, refl, ap, _∙_}
+use mathlib.Core.Path.{_≡_, refl, _∙_}
 use mathlib.Core.Logic.{_⊎_, inl, inr, ⊎-elim}
-use mathlib.Core.List.{List, [], _∷_, _++_, append-nil, append-assoc}
+use mathlib.Core.List.{List, [], _∷_, _++_, append-nil}
 use Prim.Native.Nat.{ℕ, zero, suc, _+_, _/_, _%_, _^_, _≤_, _<_}
 use native.Mathlib.Nat.{zero-add, add-zero, suc-add, pow-zero, pow-succ', div-one, div-div-eq-div-mul}
 use native.Mathlib.Numerals.{add-one}
 use native.Mathlib.Omega.{arith}
-use lib.ListN.{length, getD, set, take, drop, length-set, length-append}
-use lib.Seq.{sets, sets-eq, set-getD, drop-append-seam, getD-set-same, getD-set-other, getD-take, getD-drop}
+use lib.ListN.{length, getD, set, length-set, length-append}
+use lib.Seq.{sets, sets-eq, set-getD, drop-append-seam, getD-set-same, getD-set-other}
 use Rattle.words.specs.Numbers.{leAt, bytesOf}
-use Rattle.words.proofs.Numbers.{low, rest, leAt-same, leAt-bytes, length-bytesOf, bytes-hold}
+use Rattle.words.proofs.Numbers.{low, rest, leAt-same, length-bytesOf, bytes-hold}
 
 -- consecutive stores are one
 pub sets-then : (l : List ℕ) (i : ℕ) (vs ws : List ℕ) → sets (sets l i vs) (i + length vs) ws ≡ sets l i (vs ++ ws)
@@ -35,11 +35,6 @@ sets-bytes (suc a) b l i x =
     let high : x / 256 ^ suc a ≡ x / 256 / 256 ^ a = rw (pow-succ', ← div-div-eq-div-mul) in
     let e : i + suc a ≡ suc i + a = omega arith in
     rw (suc-add, low, rest, high, e) (sets-bytes a b (set l i (x % 256)) (suc i) (x / 256))
-
--- a part that is written back is stored
-pub sets-part : (l : List ℕ) (i : ℕ) (vs : List ℕ) → i + length vs ≤ length l
-    → take i l ++ (vs ++ drop (i + length vs) l) ≡ sets l i vs
-sets-part l i vs h = rw (sets-eq vs l i, append-assoc)
 
 -- stores that cover the first of two lists replace it
 pub sets-front : (p q vs : List ℕ) → length vs ≡ length p → sets (p ++ q) 0 vs ≡ vs ++ q
@@ -101,15 +96,3 @@ pub leAt-beside : (w : ℕ) (l : List ℕ) (i : ℕ) (vs : List ℕ) (k : ℕ) �
 leAt-beside w l i vs k h =
     leAt-same w (sets l i vs) l k k
     (λ j m. getD-sets-other l i vs (k + j) (⊎-elim (λ b. inl (omega arith)) (λ b. inr (omega arith)) h))
-
--- the number that was stored is read back
-pub leAt-stored : (w : ℕ) (l : List ℕ) (i x : ℕ) → i + w ≤ length l → leAt w (sets l i (bytesOf w x)) i ≡ x % 256 ^ w
-leAt-stored w l i x h =
-    let n = length-bytesOf w x in
-    rw add-zero at (leAt-in w l i (bytesOf w x) 0 (omega arith) (omega arith)) ∙ rw append-nil at (leAt-bytes w [] [] x)
-
--- a number in a part of a list
-pub leAt-part : (w : ℕ) (l : List ℕ) (a n i : ℕ) → i + w ≤ n → leAt w (take n (drop a l)) i ≡ leAt w l (a + i)
-leAt-part w l a n i h =
-    leAt-same w (take n (drop a l)) l i (a + i)
-    (λ k b. getD-take n (drop a l) (i + k) 0 (omega arith) ∙ getD-drop a l (i + k) 0 ∙ ap (λ (m : ℕ). getD l m 0) (omega arith))

@@ -1,0 +1,76 @@
+-- Isolation is not empty: two states and two lists of records that differ meet its premises; and the old monitor, which looked a
+-- decision up by permission in whichever slot came first, breaks it: the coach's yes to one suite is taken by another. Each claim
+-- holds by computation. Assumes nothing.
+use mathlib.Core.Path.{_≡_, refl}
+use mathlib.Core.Bool.{true, cond}
+use mathlib.Core.Logic.{inl, inr}
+use mathlib.Core.List.{List, [], _∷_}
+use Rattle.model.specs.declared.Suite.{Suite}
+use Rattle.model.specs.declared.Permission.{Permission}
+use Rattle.model.specs.declared.Mode.the-variants.{Blanket}
+use Rattle.model.specs.declared.UserAnswer.{UserAnswer}
+use Rattle.model.specs.declared.UserAnswer.the-variants.{None, Allow, Deny}
+use Rattle.model.specs.declared.Decisions.{Decisions}
+use Rattle.model.specs.declared.Slot.{Slot}
+use Rattle.model.specs.declared.Event.the-variants.{Terminate}
+use Rattle.model.specs.Policy.{Fixed, fixedBy}
+use Rattle.model.specs.State.{State, undecided, find}
+use Rattle.model.specs.Valid.{declared, decides}
+use Rattle.model.specs.Events.{writeEvent}
+use Rattle.model.specs.Answers.{ALLOWED, ASK}
+use Rattle.model.specs.Decision.{standing, decision}
+use Rattle.model.specs.Step.{Outcome, runningSlot, request, step}
+use Rattle.model.specs.Isolation.{seen, Alike, runs, Replaced}
+use Rattle.model.proofs.Worked.{policy, install, start, ask, left, computed}
+
+abbrev f : Fixed
+f = fixedBy policy
+
+-- suites 10 and 11 of two clubs, both with permission 2, which has cell 3; the coach has said yes for good to suite 10, or nothing
+abbrev asked : State
+asked = left (install 10 0 0b100 2 ∷ install 11 0 0b100 2 ∷ start 10 ∷ ask 2 (Allow Blanket) ∷ Terminate ∷ [])
+
+abbrev unasked : State
+unasked = left (install 10 0 0b100 2 ∷ install 11 0 0b100 2 ∷ [])
+
+abbrev w : Suite
+w = record { 0 = 11 }
+
+-- ---- the premises can be met
+
+pub alike : Alike f w asked unasked
+unfolding computed seen
+alike = record { one-valid = refl; other-valid = refl; equal-but = refl }
+
+pub differ : (find (record { 0 = 10 }) (asked .slots) .decisions .granted ≡ 4)
+    × (find (record { 0 = 10 }) (unasked .slots) .decisions .granted ≡ 0)
+unfolding computed
+differ = (refl, refl)
+
+-- suite 10 asks, and is asked for, something else in each list; then suite 11 runs
+pub replaced : Replaced f w asked unasked
+    (writeEvent (start 10) ∷ writeEvent (ask 2 None) ∷ writeEvent Terminate ∷ writeEvent (start 11) ∷ writeEvent (ask 2 None) ∷ [])
+    (writeEvent (start 10) ∷ writeEvent (ask 2 (Deny Blanket)) ∷ writeEvent Terminate ∷ writeEvent (start 11) ∷ writeEvent (ask 2 None) ∷ [])
+unfolding computed Replaced
+replaced = (inl refl, (inr (refl, refl, refl), (inl refl, (inl refl, (inl refl, refl)))))
+
+-- ---- the old monitor
+
+-- the decisions of the first slot that has one on the permission, whosever it is
+unfoldable pub firstDecided : Permission → List Slot → Decisions
+firstDecided p [] = undecided
+firstDecided p (x ∷ xs) = cond (decides (x .decisions) p) (x .decisions) (firstDecided p xs)
+
+-- a request as the old monitor took it
+unfoldable pub oldRequest : State → Permission → UserAnswer → Outcome
+oldRequest s p u =
+    let x = runningSlot s in
+    request s p u (decision (declared x p) (f .cell (x .domain) p) (standing p (s .session .decisions) (firstDecided p (s .slots))) u)
+
+-- suite 11 runs in two states that are alike for it: the old monitor answers by the coach's yes to suite 10, and asks without it
+pub old-monitor-tells : Alike f w (step f asked (start 11) .state) (step f unasked (start 11) .state)
+    × (runs w (step f asked (start 11) .state) ≡ true)
+    × (oldRequest (step f asked (start 11) .state) (record { 0 = 2 }) None .response ≡ ALLOWED)
+    × (oldRequest (step f unasked (start 11) .state) (record { 0 = 2 }) None .response ≡ ASK 3)
+unfolding computed seen firstDecided oldRequest
+old-monitor-tells = (record { one-valid = refl; other-valid = refl; equal-but = refl }, refl, refl, refl)
