@@ -311,7 +311,7 @@ module _ (f : Fixed) (w : Suite) where
         neither false b x = (refl, x)
         neither true b x = absurd (true≢false x)
 
-    equal-still : Equal w s t
+    pub equal-still : Equal w s t
     unfolding seen
     equal-still = record {
       running = running-same;
@@ -320,7 +320,7 @@ module _ (f : Fixed) (w : Suite) where
       session = λ r. sym (own-session w f s r) ∙ ap (λ v. v .session) alike ∙ own-session w f t (runs-same ∙ r);
     }
 
-  one-place : (s t : State) → Alike f w s t → (e e' : List ℕ) → MayReplace w s e e'
+  pub one-place : (s t : State) → Alike f w s t → (e e' : List ℕ) → MayReplace w s e e'
       → Place f w s t e e' × Alike f w (step f s (readEvent e) .state) (step f t (readEvent e') .state)
   one-place s t k e e' m =
       let (answers, states) = told in (

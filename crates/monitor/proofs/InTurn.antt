@@ -36,7 +36,7 @@ module _ (policy : List ℕ) (right : policyRight policy ≡ true) where
   unfolding checkCall
   valid-passes s v = rw (right, valid-right f s v)
 
-  step-written : (s : State) → valid f s ≡ true → (e : List ℕ)
+  pub step-written : (s : State) → valid f s ≡ true → (e : List ℕ)
       → stepCall policy (writeState s) e ≡ leaving (writeState (step f s (readEvent e) .state)) (step f s (readEvent e) .response)
   unfolding stepCall
   step-written s v e = rw (valid-passes s v, valid-holds f s v .read)

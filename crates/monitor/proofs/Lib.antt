@@ -2,3 +2,4 @@ pub mod Laws
 pub mod Runs
 pub mod InTurn
 pub mod Outcomes
+pub mod Isolation

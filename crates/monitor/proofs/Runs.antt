@@ -34,12 +34,12 @@ events-more b (suc n) i =
     let e : suc i + n ≡ i + suc n = omega arith in
     ap (λ es. recordAt b i ∷ es) (rw (← e) (events-more b n (suc i)))
 
-length-events : (b : List ℕ) (n i : ℕ) → length (eventsFrom b n i) ≡ n
+pub length-events : (b : List ℕ) (n i : ℕ) → length (eventsFrom b n i) ≡ n
 unfolding eventsFrom
 length-events b zero i = refl
 length-events b (suc n) i = ap suc (length-events b n (suc i))
 
-length-responses : (f : Fixed) (s : State) (es : List Event) → length (responses f s es) ≡ length es
+pub length-responses : (f : Fixed) (s : State) (es : List Event) → length (responses f s es) ≡ length es
 unfolding responses
 length-responses f s [] = refl
 length-responses f s (e ∷ es) = ap suc (length-responses f (step f s e .state) es)
