@@ -94,7 +94,8 @@ module _ (b : List ℕ) (right : policyRight b ≡ true) (d : ℕ) (l : d < 8) w
   unfolding rowOf admitting
   row-made = λ i. record {
     offered = made offered _ (or-lt 64 _ _ asked-lt (plane-lt 2))
-        (λ n m. rw (member-or, member-or, plane-at 0 n m, plane-at 1 n m, plane-at 2 n m) (classes (getD b (64 * d + n) 0) (cell-small n m) .0)) i;
+        (λ n m. rw (member-or, member-or, plane-at 0 n m, plane-at 1 n m, plane-at 2 n m) (classes (getD b (64 * d + n) 0)
+        (cell-small n m) .0)) i;
     asked = made (λ c. admits c Oneshot) _ asked-lt
         (λ n m. rw (member-or, plane-at 0 n m, plane-at 1 n m) (classes (getD b (64 * d + n) 0) (cell-small n m) .1)) i;
     session = made (λ c. admits c Session) _ (plane-lt 1)

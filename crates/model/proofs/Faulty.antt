@@ -49,8 +49,10 @@ differ = (refl, refl)
 
 -- suite 10 asks, and is asked for, something else in each list; then suite 11 runs
 pub replaced : Replaced f w asked unasked
-    (writeEvent (start 10) ∷ writeEvent (ask 2 None) ∷ writeEvent Terminate ∷ writeEvent (start 11) ∷ writeEvent (ask 2 None) ∷ [])
-    (writeEvent (start 10) ∷ writeEvent (ask 2 (Deny Blanket)) ∷ writeEvent Terminate ∷ writeEvent (start 11) ∷ writeEvent (ask 2 None) ∷ [])
+    (writeEvent (start 10) ∷ writeEvent (ask 2 None) ∷ writeEvent Terminate
+    ∷ writeEvent (start 11) ∷ writeEvent (ask 2 None) ∷ [])
+    (writeEvent (start 10) ∷ writeEvent (ask 2 (Deny Blanket)) ∷ writeEvent Terminate
+    ∷ writeEvent (start 11) ∷ writeEvent (ask 2 None) ∷ [])
 unfolding computed Replaced
 replaced = (inl refl, (inr (refl, refl, refl), (inl refl, (inl refl, (inl refl, refl)))))
 
@@ -65,7 +67,8 @@ firstDecided p (x ∷ xs) = cond (decides (x .decisions) p) (x .decisions) (firs
 unfoldable pub oldRequest : State → Permission → UserAnswer → Outcome
 oldRequest s p u =
     let x = runningSlot s in
-    request s p u (decision (declared x p) (f .cell (x .domain) p) (standing p (s .session .decisions) (firstDecided p (s .slots))) u)
+    request s p u (decision (declared x p) (f .cell (x .domain) p) (standing p (s .session .decisions)
+    (firstDecided p (s .slots))) u)
 
 -- suite 11 runs in two states that are alike for it: the old monitor answers by the coach's yes to suite 10, and asks without it
 pub old-monitor-tells : Alike f w (step f asked (start 11) .state) (step f unasked (start 11) .state)

@@ -25,8 +25,10 @@ use Rattle.model.specs.State.{State, withSession, withSlots, undecided, 
 use Rattle.model.specs.Events.{carried, eventIn, equal, writeEvent, readEvent}
 use Rattle.model.specs.Answers.{refused, BAD-EVENT}
 use Rattle.model.specs.Decision.{grant, revoke}
-use Rattle.model.specs.Step.{Outcome, answer, running, lacking, installed, runningSlot, judged, sessionDeciding, slotDeciding, keep, enter, request, step}
-use Rattle.model.specs.Isolation.{slotSeen, sessionSeen, seen, Alike, runs, marked, asks, MayReplace, Replaced, Equal, Place, Isolated}
+use Rattle.model.specs.Step.{Outcome, answer, running, lacking, installed, runningSlot, judged, sessionDeciding}
+use Rattle.model.specs.Step.{slotDeciding, keep, enter, request, step}
+use Rattle.model.specs.Isolation.{slotSeen, sessionSeen, seen, Alike, runs, marked, asks, MayReplace, Replaced, Equal}
+use Rattle.model.specs.Isolation.{Place, Isolated}
 use Rattle.model.proofs.Tests.{cases}
 use Rattle.model.proofs.Slots.{same-suite}
 use Rattle.model.proofs.Kept.{record-kept}
@@ -83,7 +85,8 @@ module _ (w : Suite) where
     where
       go : (b : Bool) → same (x .suite) w ≡ b
           → map (slotSeen w) (amend w (slotDeciding g) (map (slotSeen w) xs)) ≡ map (slotSeen w) (amend w (slotDeciding g) xs)
-          → map (slotSeen w) (cond b (slotDeciding g (slotSeen w x) ∷ map (slotSeen w) xs) (slotSeen w x ∷ amend w (slotDeciding g) (map (slotSeen w) xs)))
+          → map (slotSeen w) (cond b (slotDeciding g (slotSeen w x) ∷ map (slotSeen w) xs)
+          (slotSeen w x ∷ amend w (slotDeciding g) (map (slotSeen w) xs)))
           ≡ map (slotSeen w) (cond b (slotDeciding g x ∷ xs) (x ∷ amend w (slotDeciding g) xs))
       go true e r = ap₂ _∷_ (ap (λ y. slotSeen w (slotDeciding g y)) (own-slot x e)) (slots-again xs)
       go false e r = ap₂ _∷_ (slot-again x) r
@@ -127,7 +130,10 @@ module _ (w : Suite) where
   other-slots s e = record {
     response = refl;
     state = λ i. record {
-      session = record { suite = s .session .suite; decisions = sym (twice (same (s .session .suite) w) (s .session .decisions)) i };
+      session = record {
+        suite = s .session .suite;
+        decisions = sym (twice (same (s .session .suite) w) (s .session .decisions)) i;
+      };
       slots = sym e i;
     };
   }
@@ -175,7 +181,8 @@ module _ (w : Suite) where
       own-find : find (s .session .suite) (map (slotSeen w) (s .slots)) ≡ find (s .session .suite) (s .slots)
       own-find = rw me (find-seen (s .slots))
 
-      kept-seen : (m : Mode) (g : Decisions → Decisions) {r : Response} → Same (answer r (keep m g s)) (answer r (keep m g (seen w s)))
+      kept-seen : (m : Mode) (g : Decisions → Decisions) {r : Response}
+          → Same (answer r (keep m g s)) (answer r (keep m g (seen w s)))
       unfolding seen
       kept-seen oneshot g = stays s
       kept-seen session g = other-session s (ap (sessionDeciding g) (sym own-session))
@@ -185,7 +192,8 @@ module _ (w : Suite) where
           ≡ map (slotSeen w) (amend i (slotDeciding g) (s .slots)) = rw me (own-seen g (s .slots)) in
           other-slots s e
 
-      entered-seen : (u : UserAnswer) (p : Permission) {r : Response} → Same (answer r (enter u p s)) (answer r (enter u p (seen w s)))
+      entered-seen : (u : UserAnswer) (p : Permission) {r : Response}
+          → Same (answer r (enter u p s)) (answer r (enter u p (seen w s)))
       entered-seen None p = stays s
       entered-seen (Allow m) p = kept-seen m (grant p)
       entered-seen (Deny m) p = kept-seen m (revoke p)
@@ -204,7 +212,10 @@ module _ (w : Suite) where
       unfolding seen
       other-kept oneshot g = refl
       other-kept session g = rw other
-      other-kept blanket g = λ i. record { session = sessionSeen w (s .session); slots = other-seen (s .session .suite) g (s .slots) other i }
+      other-kept blanket g = λ i. record {
+        session = sessionSeen w (s .session);
+        slots = other-seen (s .session .suite) g (s .slots) other i;
+      }
 
       other-entered : (u : UserAnswer) (p : Permission) → seen w (enter u p s) ≡ seen w s
       other-entered None p = refl
@@ -215,7 +226,8 @@ module _ (w : Suite) where
       unfolding step request
       other-request p u =
           cases (Unseen s) (not (running s)) (λ _. unchanged)
-          (λ _. cases (Unseen s) (refused (judged f (s .session) (runningSlot s) p u)) (λ _. unchanged) (λ _. record { kept = other-entered u p })) .kept
+          (λ _. cases (Unseen s) (refused (judged f (s .session) (runningSlot s) p u)) (λ _. unchanged)
+          (λ _. record { kept = other-entered u p })) .kept
         where
           unchanged : {r : Response} → Unseen s (answer r s)
           unchanged = record { kept = refl }
@@ -331,7 +343,8 @@ module _ (f : Fixed) (w : Suite) where
       told : Told s t (k .equal-but) (readEvent e) (readEvent e')
       told = ⊎-elim {C = Told s t (k .equal-but) (readEvent e) (readEvent e')}
           (λ one. rw (← one) (one-event s t (k .equal-but) (readEvent e)))
-          (λ other. two-events s t (k .equal-but) (other .0) (readEvent e) (readEvent e') (marked-harmless e (other .1)) (marked-harmless e' (other .2)))
+          (λ other. two-events s t (k .equal-but) (other .0) (readEvent e) (readEvent e') (marked-harmless e (other .1))
+          (marked-harmless e' (other .2)))
           m
 
   pub isolation : (s t : State) → Alike f w s t → (es es' : List (List ℕ)) → Replaced f w s t es es' → Isolated f w s t es es'

@@ -31,12 +31,15 @@ use Rattle.model.specs.Valid.{slotValid, slotsValid, sessionSound, fitsB
 use Rattle.model.specs.Events.{carried, eventIn, equal, writeEvent, readEvent}
 use Rattle.model.specs.Answers.{refused}
 use Rattle.model.specs.Decision.{standing, given, grant, revoke}
-use Rattle.model.specs.Step.{Outcome, answer, running, lacking, installed, runningSlot, judged, sessionDeciding, slotDeciding, keep, enter, request, step}
+use Rattle.model.specs.Step.{Outcome, answer, running, lacking, installed, runningSlot, judged, sessionDeciding}
+use Rattle.model.specs.Step.{slotDeciding, keep, enter, request, step}
 use Rattle.model.specs.Run.{after}
 use Rattle.model.specs.Calls.{eventsFrom}
 use Rattle.model.proofs.Tests.{both, all-three, cases, same-sym, every-all}
-use Rattle.model.proofs.Slots.{same-suite, find-suite, length-amend, carries-deciding, find-deciding, carries-put, find-put}
-use Rattle.model.proofs.Entering.{Taken, taken, Undecided, none-stands, Enters, grant-enters, revoke-enters, session-enters, slot-enters, slot-enters-beside}
+use Rattle.model.proofs.Slots.{same-suite, find-suite, length-amend, carries-deciding, find-deciding, carries-put}
+use Rattle.model.proofs.Slots.{find-put}
+use Rattle.model.proofs.Entering.{Taken, taken, Undecided, none-stands, Enters, grant-enters, revoke-enters}
+use Rattle.model.proofs.Entering.{session-enters, slot-enters, slot-enters-beside}
 use Rattle.model.proofs.ValidSlots.{decide-slot, put-slot}
 
 -- ---- nothing is decided yet

@@ -94,7 +94,8 @@ events-split b (suc m) n i =
     let e : suc i + m ≡ i + suc m = omega arith in
     rw suc-add (ap (λ es. readEvent (take 24 (drop (24 * i) b)) ∷ es) (rw (← e) (events-split b m n (suc i))))
 
-events-append : (a b : List ℕ) (m n : ℕ) → length a ≡ 24 * m → eventsFrom (a ++ b) (m + n) 0 ≡ eventsFrom a m 0 ++ eventsFrom b n 0
+events-append : (a b : List ℕ) (m n : ℕ) → length a ≡ 24 * m → eventsFrom (a ++ b)
+    (m + n) 0 ≡ eventsFrom a m 0 ++ eventsFrom b n 0
 events-append a b m n e =
     let z : 0 + m ≡ m + 0 = omega arith in
     events-split (a ++ b) m n 0

@@ -54,7 +54,8 @@ running-part : (s : State) → take 2 (writeState s) ≡ bytesOf 2 (s .session .
 unfolding writeState sessionBytes bytesOf
 running-part s = refl
 
-found-part : (s : State) (k : ℕ) → k < length (s .slots) → take 40 (drop (40 * suc k) (writeState s)) ≡ slotBytes (getD (s .slots) k free)
+found-part : (s : State) (k : ℕ) → k < length (s .slots) → take 40 (drop (40 * suc k)
+    (writeState s)) ≡ slotBytes (getD (s .slots) k free)
 unfolding writeState
 found-part s k h =
     let b = sessionBytes (s .session) in
@@ -78,16 +79,19 @@ module _ (policy : List ℕ) (right : policyRight policy ≡ true) (w : Suite) w
       below : (isSuite w && carries w (s .slots)) ≡ true → k < length (s .slots)
       below h = ltb-true k (length (s .slots)) (sym (carries-place w (s .slots)) ∙ both (isSuite w) (carries w (s .slots)) h .1)
 
-      part : (isSuite w && carries w (s .slots)) ≡ true → take 40 (drop (40 * suc k) (writeState s)) ≡ slotBytes (find w (s .slots))
+      part : (isSuite w && carries w (s .slots)) ≡ true
+          → take 40 (drop (40 * suc k) (writeState s)) ≡ slotBytes (find w (s .slots))
       part h = found-part s k (below h) ∙ ap slotBytes (sym (find-place w (s .slots)))
 
       go : (t : Bool) → (isSuite w && carries w (s .slots)) ≡ t
-          → (let p : Part = cond (refused (cond (not t) NOT-INSTALLED DONE)) (record { from = 0; size = 0 }) (record { from = 40 * suc k; size = 40 }) in
+          → (let p : Part = cond (refused (cond (not t) NOT-INSTALLED DONE)) (record { from = 0; size = 0 })
+          (record { from = 40 * suc k; size = 40 }) in
           take (p .size) (drop (p .from) (writeState s))) ≡ cond t (slotBytes (find w (s .slots))) []
       go true h = part h
       go false h = refl
 
-  equal-bytes : (s t : State) → valid f s ≡ true → valid f t ≡ true → Equal w s t → EqualBytes policy w (writeState s) (writeState t)
+  equal-bytes : (s t : State) → valid f s ≡ true → valid f t ≡ true → Equal w s t → EqualBytes policy w (writeState s)
+      (writeState t)
   equal-bytes s t v v' e = record {
     running = running-part s ∙ ap (λ i. bytesOf 2 (i .0)) (e .running) ∙ sym (running-part t);
     stored = record-written s v ∙ same-record ∙ sym (record-written t v');
@@ -118,7 +122,8 @@ module _ (policy : List ℕ) (right : policyRight policy ≡ true) (w : Suite) w
 -- two lent states that pass the check and are equal but for other suites' decisions
 pub step-isolated : (policy : List ℕ) (w : Suite) (b b' : List ℕ) → ((k : ℕ) → getD b k 0 < 256) → ((k : ℕ) → getD b' k 0 < 256)
     → refused (checkCall policy b) ≡ false → refused (checkCall policy b') ≡ false → seen w (readState b) ≡ seen w (readState b')
-    → (es es' : List (List ℕ)) → Replaced (fixedBy policy) w (readState b) (readState b') es es' → IsolatedBytes policy w b b' es es'
+    → (es es' : List (List ℕ)) → Replaced (fixedBy policy) w (readState b)
+    (readState b') es es' → IsolatedBytes policy w b b' es es'
 step-isolated policy w b b' bytes bytes' good good' equal es es' h =
     let p = passed policy b good in
     let p' = passed policy b' good' in
@@ -167,8 +172,10 @@ module _ (policy : List ℕ) (w : Suite) (b b' : List ℕ)
     equal-but = equal;
   }
 
-  ended : (es es' : List ℕ) (n : ℕ) → Isolated (fixedBy policy) w (readState b) (readState b') (recordsFrom es n 0) (recordsFrom es' n 0)
-      → Equal w (after (fixedBy policy) (readState b) (eventsFrom es n 0)) (after (fixedBy policy) (readState b') (eventsFrom es' n 0))
+  ended : (es es' : List ℕ) (n : ℕ) → Isolated (fixedBy policy) w (readState b) (readState b') (recordsFrom es n 0)
+      (recordsFrom es' n 0)
+      → Equal w (after (fixedBy policy) (readState b) (eventsFrom es n 0)) (after (fixedBy policy) (readState b')
+      (eventsFrom es' n 0))
   unfolding eventsFrom after
   ended es es' zero each = equal-still (fixedBy policy) w (readState b) (readState b') equal
   ended es es' (suc n) each = at-place (fixedBy policy) w es es' (suc n) 0 n (readState b) (readState b') each (omega arith) .1
@@ -191,7 +198,8 @@ module _ (policy : List ℕ) (w : Suite) (b b' : List ℕ)
       record {
         answers = λ i l x.
             let told = rw (zero-add i) at (at-place f w es es' n 0 i s t each l) in
-            ap (λ o. take 2 (drop (2 * i) (o .output))) ran ∙ answer-at f s es n i l ∙ ap (λ r. r .number ∷ r .detail ∷ []) (told .0 x)
+            ap (λ o. take 2 (drop (2 * i) (o .output))) ran ∙ answer-at f s es n i l ∙ ap (λ r. r .number ∷ r .detail ∷ [])
+            (told .0 x)
             ∙ sym (ap (λ o. take 2 (drop (2 * i) (o .output))) ran' ∙ answer-at f t es' n i l);
         equal = rw (ap (λ o. o .state) ran, ap (λ o. o .state) ran') (last n each);
       }
@@ -200,5 +208,6 @@ module _ (policy : List ℕ) (w : Suite) (b b' : List ℕ)
           → EqualBytes policy w (writeState (after (fixedBy policy) (readState b) (eventsFrom es n 0)))
           (writeState (after (fixedBy policy) (readState b') (eventsFrom es' n 0)))
       last n each =
-          equal-bytes policy (passed policy b good .policy-right) w _ _ (run-kept (fixedBy policy) (readState b) (alike .one-valid) es n 0)
+          equal-bytes policy (passed policy b good .policy-right) w _ _ (run-kept (fixedBy policy) (readState b)
+          (alike .one-valid) es n 0)
           (run-kept (fixedBy policy) (readState b') (alike .other-valid) es' n 0) (ended es es' n each)

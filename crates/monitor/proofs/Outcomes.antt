@@ -75,4 +75,5 @@ pub event-refusal : (policy state records : List ℕ) (i : ℕ)
     refused (step f s (recordAt records i) .response) ≡ true → after f (readState state) (eventsFrom records (i + 1) 0) ≡ s
 event-refusal policy state records i h =
     let f = fixedBy policy in
-    sym (state-next f (readState state) records [] i) ∙ refused-leaves f (after f (readState state) (eventsFrom records i 0)) (recordAt records i) h
+    sym (state-next f (readState state) records [] i) ∙ refused-leaves f (after f (readState state) (eventsFrom records i 0))
+    (recordAt records i) h

@@ -86,7 +86,8 @@ module _ (f : Fixed) (s : State) (es lent : List ℕ) where
         → answers i ++ (r .number ∷ r .detail ∷ []) ≡ answers (i + 1)
     unfolding answers responses outputOf
     answers-next r e =
-        rw e (sym (ap (λ l. outputOf (responses f s l)) one-more ∙ ap outputOf (responses-append f s (eventsFrom es i 0) (recordAt es i ∷ []))
+        rw e (sym (ap (λ l. outputOf (responses f s l)) one-more ∙ ap outputOf (responses-append f s (eventsFrom es i 0)
+        (recordAt es i ∷ []))
         ∙ output-append (responses f s (eventsFrom es i 0)) _))
 
     rest-next : (n d : ℕ) → 2 * i + 2 ≤ length lent → sets (drop (2 * i) lent) 0 (n ∷ d ∷ []) ≡ (n ∷ d ∷ []) ++ drop (2 * (i + 1)) lent
@@ -104,9 +105,11 @@ module _ (f : Fixed) (s : State) (es lent : List ℕ) where
             state = rw (← state-next, ← g .state .read) (t .state);
             output = t .output ∙ ap (λ o. sets o (2 * i) two) (g .output)
                 ∙ ap (λ n. sets (answers i ++ drop (2 * i) lent) n two) (sym (length-answers i) ∙ sym (add-zero _))
-                ∙ sets-behind (answers i) (drop (2 * i) lent) 0 two ∙ ap (λ q. answers i ++ q) (rest-next (r .number) (r .detail) l)
+                ∙ sets-behind (answers i) (drop (2 * i) lent) 0 two ∙ ap (λ q. answers i ++ q) (rest-next (r .number)
+                (r .detail) l)
                 ∙ sym (append-assoc (answers i) two (drop (2 * (i + 1)) lent))
-                ∙ ap (λ q. q ++ drop (2 * (i + 1)) lent) (answers-next r (ap (λ y. step f y (recordAt es i) .response) (g .state .read)));
+                ∙ ap (λ q. q ++ drop (2 * (i + 1)) lent) (answers-next r (ap (λ y. step f y (recordAt es i) .response)
+                (g .state .read)));
             sized = ap length (t .output) ∙ length-sets out (2 * i) two ∙ g .sized;
             place = t .place;
           }

@@ -36,6 +36,7 @@ IsolatedBytes policy w b b' (e ∷ es) (e' ∷ es') =
 -- of two runs of n records each: the answers that are not excused are the same two bytes, and so is what is kept for w at the end
 pub record IsolatedRuns (policy : List ℕ) (w : Suite) (b b' es es' : List ℕ) (n : ℕ) (exit exit' out out' : List ℕ) : Type 0 where
   pub answers : (i : ℕ) → i < n
-      → excused w (after (fixedBy policy) (readState b) (eventsFrom es i 0)) (take 24 (drop (24 * i) es)) (take 24 (drop (24 * i) es')) ≡ false
+      → excused w (after (fixedBy policy) (readState b) (eventsFrom es i 0))
+      (take 24 (drop (24 * i) es)) (take 24 (drop (24 * i) es')) ≡ false
       → take 2 (drop (2 * i) out) ≡ take 2 (drop (2 * i) out')
   pub equal : EqualBytes policy w exit exit'

@@ -103,7 +103,8 @@ fn turn(
     requires { ⌜ WellFormed (now state) × Knows (readState (now state)) at
         × (eventSize * i + eventSize ≤ length (now records)) × (answerSize * i + answerSize ≤ length (now out)) ⌝ }
     ensures { λ r. ⌜ Turned (step (fixedBy (now (policy .entry))) (readState (now (state .entry)))
-        (readEvent (take eventSize (drop (eventSize * i) (now (records .entry)))))) i (now (out .entry)) (now (state .exit)) (now (out .exit)) r ⌝ }
+        (readEvent (take eventSize (drop (eventSize * i) (now (records .entry)))))) i (now (out .entry))
+        (now (state .exit)) (now (out .exit)) r ⌝ }
 {
     let a = 24 * i;
     let event = read_event(&records[a..a + 24]);

@@ -52,7 +52,8 @@ fn install(
     domain: model::Domain,
 ) -> model::Response
     requires { ⌜ WellFormed (now state) ⌝ }
-    ensures { λ r. ⌜ Did (step (fixedBy (now (policy .entry))) (readState (now (state .entry))) (Install i x domain)) (now (state .exit)) r ⌝ }
+    ensures { λ r. ⌜ Did (step (fixedBy (now (policy .entry))) (readState (now (state .entry))) (Install i x domain))
+        (now (state .exit)) r ⌝ }
 {
     if store::place_of(state, i) < 32 {
         return model::Response::plain(22);
@@ -220,8 +221,8 @@ fn request(
     u: model::UserAnswer,
 ) -> Done
     requires { ⌜ WellFormed (now state) × Knows (readState (now state)) at × (p .0 < 64) ⌝ }
-    ensures { λ r. ⌜ Did (step (fixedBy (now (policy .entry))) (readState (now (state .entry))) (Request p u)) (now (state .exit)) (r .response)
-        × Knows (readState (now (state .exit))) (r .at) ⌝ }
+    ensures { λ r. ⌜ Did (step (fixedBy (now (policy .entry))) (readState (now (state .entry))) (Request p u))
+        (now (state .exit)) (r .response) × Knows (readState (now (state .exit))) (r .at) ⌝ }
 {
     let session = store::read_session(state);
     let running = session.suite;

@@ -13,7 +13,8 @@ use Rattle.model.specs.declared.Session.{Session}
 use Rattle.model.specs.State.{State, withSession, sessionBytes, slotBytes, slotsBytes, readState, writeState}
 use Rattle.model.proofs.Right.{length-slots}
 use Rattle.store.specs.Holds.{Holds, WellFormed, withSlot}
-use Rattle.store.proofs.Records.{SlotFits, SessionFits, length-session, slots-beside, slots-set, slotsBytes-set, session-stored, session-beside}
+use Rattle.store.proofs.Records.{SlotFits, SessionFits, length-session, slots-beside, slots-set, slotsBytes-set}
+use Rattle.store.proofs.Records.{session-stored, session-beside}
 
 pub slots-held : {b : List ℕ} {s : State} → Holds b s → length (s .slots) ≡ 32
 unfolding readState

@@ -17,13 +17,16 @@ use Rattle.model.specs.declared.Slot.{Slot}
 use Rattle.model.specs.declared.Session.{Session}
 use Rattle.model.specs.Device.{isSuite, isDomain, isSet, noSuite, same}
 use Rattle.model.specs.Policy.{Fixed}
-use Rattle.model.specs.State.{State, carries, find, sessionAt, sessionZeros, sessionBytes, slotAt, slotZeros, slotBytes, slotsFrom, slotsBytes, readState, writeState}
-use Rattle.model.specs.Valid.{clear, blank, installable, slotSound, slotDecided, slotValid, slotsValid, sessionSound, sessionDecided, sessionValid, valid, slotsRight, stateRight}
+use Rattle.model.specs.State.{State, carries, find, sessionAt, sessionZeros, sessionBytes, slotAt, slotZeros, slotBytes}
+use Rattle.model.specs.State.{slotsFrom, slotsBytes, readState, writeState}
+use Rattle.model.specs.Valid.{clear, blank, installable, slotSound, slotDecided, slotValid, slotsValid, sessionSound}
+use Rattle.model.specs.Valid.{sessionDecided, sessionValid, valid, slotsRight, stateRight}
 use Rattle.model.proofs.Tests.{both, all-three}
 use Rattle.model.proofs.ValidSlots.{taken-apart, find-sound}
 use Rattle.model.proofs.Slots.{find-suite}
 use Rattle.store.specs.Holds.{Holds}
-use Rattle.store.proofs.Records.{SlotFits, SessionFits, length-slot, slot-stored, length-slotsBytes, length-session, session-stored}
+use Rattle.store.proofs.Records.{SlotFits, SessionFits, length-slot, slot-stored, length-slotsBytes, length-session}
+use Rattle.store.proofs.Records.{session-stored}
 
 -- ---- a record between other bytes
 
@@ -59,7 +62,10 @@ unfolding sessionZeros sessionBytes bytesOf
 session-zeros-there r q =
     let suite = bytesOf 2 (r .suite .0) in
     let decisions = bytesOf 8 (r .decisions .granted) ++ bytesOf 8 (r .decisions .revoked) in
-    rw (zeros-there 6 suite (decisions ++ (bytesOf 16 0 ++ q)) 2 refl, zeros-there 16 (suite ++ (bytesOf 6 0 ++ decisions)) q 24 refl)
+    rw (
+      zeros-there 6 suite (decisions ++ (bytesOf 16 0 ++ q)) 2 refl,
+      zeros-there 16 (suite ++ (bytesOf 6 0 ++ decisions)) q 24 refl,
+    )
 
 -- ---- the numbers of a valid state fit their places
 
@@ -129,7 +135,8 @@ slots-written f lower p (x ∷ xs) h =
     let q = slotsBytes xs in
     let there = slot-there p x q z in
     let n : length (p ++ slotBytes x) ≡ length p + 40 = rw (length-append, length-slot x) in
-    let (right, read) = rw (append-assoc p (slotBytes x) q, n) at (slots-written f (x .suite ∷ lower) (p ++ slotBytes x) xs (k .more)) in
+    let (right, read) = rw (append-assoc p (slotBytes x) q, n) at (slots-written f (x .suite ∷ lower)
+    (p ++ slotBytes x) xs (k .more)) in
     (rw (slot-zeros-there p x q, there, k .sound, k .own, k .decided) right, ap₂ _∷_ there read)
 
 module _ (f : Fixed) (s : State) (h : valid f s ≡ true) where
@@ -151,7 +158,11 @@ module _ (f : Fixed) (s : State) (h : valid f s ≡ true) where
         sized = rw (length-append, length-session (s .session), length-slotsBytes (s .slots), n);
         slots = right;
         zeros = session-zeros-there (s .session) (slotsBytes (s .slots));
-        read = λ i. record { session = session-there (s .session) (slotsBytes (s .slots)) (session-fits f s slots session) i; slots = read i };
+        read = λ i. record {
+          session = session-there (s .session) (slotsBytes (s .slots))
+              (session-fits f s slots session) i;
+          slots = read i;
+        };
         session = session;
       }
 

@@ -12,7 +12,8 @@ use Rattle.words.specs.Numbers.{leAt, bytesOf}
 use Rattle.words.proofs.Stores.{sets-field, sets-whole}
 use Rattle.model.specs.declared.Suite.{Suite}
 use Rattle.model.specs.Policy.{Fixed}
-use Rattle.model.specs.State.{recordSize, stateSize, sessionAt, sessionZeros, sessionBytes, slotAt, slotZeros, slotBytes, slotsFrom, slotsBytes, readState, writeState}
+use Rattle.model.specs.State.{recordSize, stateSize, sessionAt, sessionZeros, sessionBytes, slotAt, slotZeros, slotBytes}
+use Rattle.model.specs.State.{slotsFrom, slotsBytes, readState, writeState}
 use Rattle.model.specs.Valid.{slotValid, sessionValid, slotsRight, stateRight}
 use Rattle.model.proofs.Tests.{both, all-three}
 use Rattle.model.proofs.Right.{length-slots}

@@ -16,13 +16,25 @@ returns-2 : tie.Need-returns-2
 unfolding checkCall
 returns-2 c =
     let s = c .before .before in
-    rw (← s .before .before .check-policy .ensures, s .before .if1 .left, ← s .check-state .ensures, c .before .if2 .taken, c .plain2 .ensures)
+    rw (
+      ← s .before .before .check-policy .ensures,
+      s .before .if1 .left,
+      ← s .check-state .ensures,
+      c .before .if2 .taken,
+      c .plain2 .ensures,
+    )
 
 returns-3 : tie.Need-returns-3
 unfolding checkCall
 returns-3 c =
     let s = c .before .before in
-    rw (← s .before .before .check-policy .ensures, s .before .if1 .left, ← s .check-state .ensures, c .before .if2 .left, c .plain3 .ensures)
+    rw (
+      ← s .before .before .check-policy .ensures,
+      s .before .if1 .left,
+      ← s .check-state .ensures,
+      c .before .if2 .left,
+      c .plain3 .ensures,
+    )
 
 pub check-spec : {M : Type 1} → statement M
 check-spec =

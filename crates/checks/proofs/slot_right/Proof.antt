@@ -37,7 +37,8 @@ returns-4 c f row =
     let a = t .args in
     let sound = sym (s .before .slot-sound .ensures f row) ∙ not-false _ (s .if2 .left) in
     c .slot-decided .ensures f (row (sound-domain f (a .x) sound))
-    ∙ right-decided f (a .state .now) (a .k) (a .x) (t .pre .2) (sym (z .before .slot-zeros .ensures) ∙ not-false _ (z .if1 .left))
+    ∙ right-decided f (a .state .now) (a .k) (a .x) (t .pre .2) (sym (z .before .slot-zeros .ensures)
+    ∙ not-false _ (z .if1 .left))
     sound (sym (o .before .own-number .ensures) ∙ not-false _ (o .if3 .left))
 
 pub slot-right-spec : {M : Type 1} → statement M

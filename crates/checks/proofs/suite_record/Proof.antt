@@ -11,7 +11,8 @@ returns : tie.Need-returns
 returns c =
     let t = c .before .before .before in
     let a = t .before .before .before .args in
-    rw (part-none (a .policy .now) (a .state .now) (a .suite) (ap refused (sym (t .find .ensures)) ∙ le-leb _ _ (c .before .if1 .taken)))
+    rw (part-none (a .policy .now) (a .state .now) (a .suite) (ap refused (sym (t .find .ensures))
+    ∙ le-leb _ _ (c .before .if1 .taken)))
     (record { block = refl; start = omega arith; bytes = refl })
 
 there : tie.Need-place-of-requires
@@ -34,7 +35,8 @@ returns-2 c =
     let t = p .before .before .before in
     let a = t .before .before .before .args in
     rw (
-      part-slot (a .policy .now) (a .state .now) (a .suite) (ap refused (sym (t .find .ensures)) ∙ lt-leb _ _ (p .before .if1 .left)),
+      part-slot (a .policy .now) (a .state .now) (a .suite) (ap refused (sym (t .find .ensures))
+          ∙ lt-leb _ _ (p .before .if1 .left)),
       ← p .place-of .ensures,
     ) (c .slot-part .ensures)
 

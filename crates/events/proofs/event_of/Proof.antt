@@ -28,7 +28,13 @@ returns-6 : tie.Need-returns-6
 unfolding eventOf
 returns-6 c =
     let no = c .match .rest in
-    simp (ne-eqb _ _ (no .0 .0 .0 .0 .1), ne-eqb _ _ (no .0 .0 .0 .1), ne-eqb _ _ (no .0 .0 .1), ne-eqb _ _ (no .0 .1), ne-eqb _ _ (no .1))
+    simp (
+      ne-eqb _ _ (no .0 .0 .0 .0 .1),
+      ne-eqb _ _ (no .0 .0 .0 .1),
+      ne-eqb _ _ (no .0 .0 .1),
+      ne-eqb _ _ (no .0 .1),
+      ne-eqb _ _ (no .1),
+    )
 
 pub event-of-spec : {M : Type 1} → statement M
 event-of-spec =

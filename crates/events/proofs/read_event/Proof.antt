@@ -13,7 +13,8 @@ returns-2 c =
     let e = c .before .before .before .before in
     let s = e .before .before in
     c .where-good .ensures
-    ∙ read-numbers (s .before .before .args .bytes .now) (λ k. omega (arith, s .before .shared-slice-known .given k)) (s .if1 .left)
+    ∙ read-numbers (s .before .before .args .bytes .now) (λ k. omega (arith, s .before .shared-slice-known .given k))
+    (s .if1 .left)
     (e .before .fields-at .ensures) (e .event-of .ensures) (c .before .before .before .fits2 .ensures)
     (c .before .before .fields-of .ensures) (c .before .same .ensures)
 

@@ -33,7 +33,8 @@ good c κs =
       checked-formed (a .policy .now) (a .state .now) (λ n. omega (arith, t .slice-known .given n))
           (ap refused (sym (k .check .ensures)) ∙ lt-leb _ _ (v .if1 .left)),
       search needs,
-      whole-parts (a .policy .now) (a .state .now) (a .records .now) (a .out .now) (not-false _ (c .before .before .if2 .left)) .1,
+      whole-parts (a .policy .now) (a .state .now) (a .records .now) (a .out .now)
+          (not-false _ (c .before .before .if2 .left)) .1,
     )
 
 returns-3 : tie.Need-returns-3
@@ -48,4 +49,5 @@ returns-3 c =
     (ap refused (sym (k .check .ensures)) ∙ lt-leb _ _ (v .if1 .left)) (not-false _ (w .if2 .left)) (d .run-events .ensures))
 
 pub run-spec : {M : Type 1} → statement M
-run-spec = tie.close (tie.spec (λ c κs. search needs) (λ c. search needs) returns (λ c. search needs) (λ c κs. search needs) (λ c. search needs) returns-2 good (λ c κs. search needs) (λ c. search needs) (λ c. search needs) returns-3)
+run-spec = tie.close (tie.spec (λ c κs. search needs) (λ c. search needs) returns (λ c. search needs) (λ c κs. search needs)
+    (λ c. search needs) returns-2 good (λ c κs. search needs) (λ c. search needs) (λ c. search needs) returns-3)

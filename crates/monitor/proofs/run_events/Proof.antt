@@ -18,8 +18,11 @@ abbrev μ-loop : tie.MeasureT-loop
 
 loop-holds : tie.Need-loop-holds Inv-loop μ-loop
 loop-holds c =
-    let t = c .before .before .before .before in
-    (search needs, going-first (fixedBy (t .args .policy .now)) (readState (t .args .state .now)) (t .args .records .now) (t .args .out .now) (t .pre .0))
+    let t = c .before .before .before .before in (
+      search needs,
+      going-first (fixedBy (t .args .policy .now)) (readState (t .args .state .now)) (t .args .records .now)
+          (t .args .out .now) (t .pre .0),
+    )
 
 good : tie.Need-turn-requires Inv-loop μ-loop
 good c κs =
@@ -33,7 +36,8 @@ loop-again c =
     let l = d .before .before .before .before in
     let t = l .before .before .before .before .before in (
       search needs,
-      going-on (fixedBy (t .args .policy .now)) (readState (t .args .state .now)) (t .args .records .now) (t .args .out .now) (l .loop .i)
+      going-on (fixedBy (t .args .policy .now)) (readState (t .args .state .now)) (t .args .records .now) (t .args .out .now)
+          (l .loop .i)
           (l .loop .inv .1) (search needs) (d .turn .ensures),
     )
 
@@ -46,4 +50,5 @@ returns c =
     (rw e at (l .loop .inv .1)) (t .pre .2)
 
 pub run-events-spec : {M : Type 1} → statement M
-run-events-spec = tie.close (tie.spec Inv-loop μ-loop loop-holds good (λ c. search needs) (λ c. search needs) loop-again (λ c. search needs) (λ c. search needs) returns)
+run-events-spec = tie.close (tie.spec Inv-loop μ-loop loop-holds good (λ c. search needs)
+    (λ c. search needs) loop-again (λ c. search needs) (λ c. search needs) returns)

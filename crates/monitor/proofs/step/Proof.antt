@@ -13,7 +13,8 @@ returns c =
     let k = c .before .before in
     let a = k .before .before .before .before .before .args in
     rw (k .check .ensures)
-    (step-refused (a .policy .now) (a .state .now) (a .bytes .now) (ap refused (sym (k .check .ensures)) ∙ le-leb _ _ (c .if1 .taken)))
+    (step-refused (a .policy .now) (a .state .now) (a .bytes .now) (ap refused (sym (k .check .ensures))
+    ∙ le-leb _ _ (c .if1 .taken)))
 
 good : tie.Need-step-requires
 good c κs =
@@ -34,7 +35,9 @@ returns-2 c =
     let k = e .before .before .before in
     let a = k .before .before .before .before .before .args in
     step-taken (a .policy .now) (a .state .now) (a .bytes .now)
-    (ap refused (sym (k .check .ensures)) ∙ lt-leb _ _ (e .before .if1 .left)) (rw (e .read-event .ensures) at (d .step .ensures .0))
+    (ap refused (sym (k .check .ensures)) ∙ lt-leb _ _ (e .before .if1 .left))
+    (rw (e .read-event .ensures) at (d .step .ensures .0))
 
 pub step-spec : {M : Type 1} → statement M
-step-spec = tie.close (tie.spec (λ c κs. search needs) (λ c. search needs) returns (λ c κs. search needs) good (λ c. search needs) returns-2)
+step-spec = tie.close (tie.spec (λ c κs. search needs)
+    (λ c. search needs) returns (λ c κs. search needs) good (λ c. search needs) returns-2)

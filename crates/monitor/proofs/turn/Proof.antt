@@ -24,4 +24,5 @@ returns c =
     record { state = done .0 .state; output = p .put-answer .ensures ∙ rw (done .0 .response); place = done .1 }
 
 pub turn-spec : {M : Type 1} → statement M
-turn-spec = tie.close (tie.spec (λ c. search needs) (λ c. search needs) (λ c. search needs) (λ c. search needs) (λ c. search needs) (λ c κs. search needs) good (λ c κs. search needs) (λ c. search needs) (λ c. search needs) returns)
+turn-spec = tie.close (tie.spec (λ c. search needs) (λ c. search needs) (λ c. search needs) (λ c. search needs)
+    (λ c. search needs) (λ c κs. search needs) good (λ c κs. search needs) (λ c. search needs) (λ c. search needs) returns)

@@ -12,4 +12,6 @@ returns : tie.Need-returns
 returns c = record { policy = _; events = _; lent = _; from-new = c .before .print-run .ensures }
 
 pub report-spec : {M : Type 1} → statement M
-report-spec = tie.close (tie.spec (λ c. search needs) (λ c κs. search needs) (λ c. search needs) (λ c κs. search needs) (λ c. search needs) (λ c. search needs) (λ c. search needs) (λ c. search needs) (λ c. search needs) (λ c. search needs) answers-lent (λ c κs. search needs) returns)
+report-spec = tie.close (tie.spec (λ c. search needs) (λ c κs. search needs) (λ c. search needs) (λ c κs. search needs)
+    (λ c. search needs) (λ c. search needs) (λ c. search needs) (λ c. search needs) (λ c. search needs)
+    (λ c. search needs) answers-lent (λ c κs. search needs) returns)

@@ -20,4 +20,5 @@ returns c =
     record { state = _; output = _; ran = rw (made _ (search needs) (n .new-state .ensures)) at (d .run .ensures) }
 
 pub run-new-spec : {M : Type 1} → statement M
-run-new-spec = tie.close (tie.spec (λ c. search needs) (λ c κs. search needs) (λ c. search needs) (λ c κs. search needs) (λ c. search needs) returns)
+run-new-spec = tie.close (tie.spec (λ c. search needs) (λ c κs. search needs) (λ c. search needs) (λ c κs. search needs)
+    (λ c. search needs) returns)

@@ -10,14 +10,27 @@ returns c = rw (c .before .if1 .taken, c .plain .ensures)
 
 returns-2 : tie.Need-returns-2
 unfolding decision
-returns-2 c = rw (c .before .before .before .if1 .left, ← c .before .before .offered .ensures, c .before .if2 .taken, c .plain2 .ensures)
+returns-2 c = rw (
+  c .before .before .before .if1 .left,
+  ← c .before .before .offered .ensures,
+  c .before .if2 .taken,
+  c .plain2 .ensures,
+)
 
 returns-3 : tie.Need-returns-3
 unfolding decision
 returns-3 c =
     let g = c .before .before in
     let s = g .before in
-    rw (s .before .before .before .if1 .left, ← s .before .before .offered .ensures, s .before .if2 .left, ← g .given .ensures, ← s .stands .ensures, c .before .if3 .taken, c .plain3 .ensures)
+    rw (
+      s .before .before .before .if1 .left,
+      ← s .before .before .offered .ensures,
+      s .before .if2 .left,
+      ← g .given .ensures,
+      ← s .stands .ensures,
+      c .before .if3 .taken,
+      c .plain3 .ensures,
+    )
 
 returns-4 : tie.Need-returns-4
 unfolding decision
@@ -80,4 +93,6 @@ returns-6 c =
 pub decision-spec : {M : Type 1} → statement M
 decision-spec =
     tie.close
-    (tie.spec (λ c κs. search needs) returns (λ c κs. search needs) (λ c κs. search needs) returns-2 (λ c κs. search needs) (λ c κs. search needs) (λ c κs. search needs) returns-3 (λ c κs. search needs) (λ c κs. search needs) returns-4 (λ c κs. search needs) returns-5 (λ c κs. search needs) returns-6)
+    (tie.spec (λ c κs. search needs) returns (λ c κs. search needs) (λ c κs. search needs) returns-2 (λ c κs. search needs)
+    (λ c κs. search needs) (λ c κs. search needs) returns-3 (λ c κs. search needs)
+    (λ c κs. search needs) returns-4 (λ c κs. search needs) returns-5 (λ c κs. search needs) returns-6)

@@ -14,4 +14,5 @@ unfolding fixedBy
 returns-2 c = sym (List·getD-eq-default (c .before .before .before .args .policy .now) 0 (c .if1 .left))
 
 pub cell-spec : {M : Type 1} → statement M
-cell-spec = tie.close (tie.spec (λ c. search needs) (λ c. search needs) (λ c. search needs) (λ c. search needs) (λ c. search needs) returns returns-2)
+cell-spec = tie.close (tie.spec (λ c. search needs) (λ c. search needs) (λ c. search needs) (λ c. search needs)
+    (λ c. search needs) returns returns-2)

@@ -9,7 +9,8 @@ returns c =
     let k = c .before .before in
     let t = k .before .before .before .before in
     let a = t .args in
-    did (install-again (fixedBy (a .policy .now)) (a .state .now) (a .i) (k .place-of .result) (k .place-of .ensures) (a .x) (a .domain)
+    did (install-again (fixedBy (a .policy .now)) (a .state .now) (a .i) (k .place-of .result) (k .place-of .ensures) (a .x)
+    (a .domain)
     (c .before .if1 .taken)) (c .plain .ensures) (t .pre)
 
 returns-2 : tie.Need-returns-2
@@ -18,7 +19,8 @@ returns-2 c =
     let k = l .before .before in
     let t = k .before .before .before .before in
     let a = t .args in
-    did (install-lacks (fixedBy (a .policy .now)) (a .state .now) (a .i) (k .place-of .result) (k .place-of .ensures) (a .x) (a .domain)
+    did (install-lacks (fixedBy (a .policy .now)) (a .state .now) (a .i) (k .place-of .result) (k .place-of .ensures) (a .x)
+    (a .domain)
     (l .before .if1 .left) (l .lacking .result) (l .lacking .ensures) (c .before .if2 .taken)) (c .detailed .ensures) (t .pre)
 
 returns-3 : tie.Need-returns-3
@@ -28,7 +30,8 @@ returns-3 c =
     let k = l .before .before in
     let t = k .before .before .before .before in
     let a = t .args in
-    did (install-full (fixedBy (a .policy .now)) (a .state .now) (a .i) (k .place-of .result) (k .place-of .ensures) (a .x) (a .domain)
+    did (install-full (fixedBy (a .policy .now)) (a .state .now) (a .i) (k .place-of .result) (k .place-of .ensures) (a .x)
+    (a .domain)
     (l .before .if1 .left) (l .lacking .result) (l .lacking .ensures) (j .before .before .if2 .left)
     (j .place-of2 .result) (j .place-of2 .ensures) (c .before .if3 .taken)) (c .plain2 .ensures) (t .pre)
 
@@ -41,7 +44,8 @@ returns-4 c =
     let k = l .before .before in
     let t = k .before .before .before .before in
     let a = t .args in
-    did (install-done (fixedBy (a .policy .now)) (a .state .now) (a .i) (k .place-of .result) (k .place-of .ensures) (a .x) (a .domain)
+    did (install-done (fixedBy (a .policy .now)) (a .state .now) (a .i) (k .place-of .result) (k .place-of .ensures) (a .x)
+    (a .domain)
     (l .before .if1 .left) (l .lacking .result) (l .lacking .ensures) (j .before .before .if2 .left)
     (j .place-of2 .result) (j .place-of2 .ensures) (d .before .if3 .left))
     (c .plain3 .ensures) (rw (← d .none .ensures) (w .write-slot .ensures))
@@ -49,4 +53,7 @@ returns-4 c =
 pub install-spec : {M : Type 1} → statement M
 install-spec =
     tie.close
-    (tie.spec (λ c κs. search needs) (λ c κs. search needs) (λ c. search needs) returns (λ c κs. search needs) (λ c κs. search needs) (λ c. search needs) returns-2 (λ c κs. search needs) (λ c κs. search needs) (λ c. search needs) returns-3 (λ c κs. search needs) (λ c κs. search needs) (λ c κs. search needs) (λ c. search needs) returns-4)
+    (tie.spec (λ c κs. search needs) (λ c κs. search needs) (λ c. search needs) returns (λ c κs. search needs)
+    (λ c κs. search needs) (λ c. search needs) returns-2 (λ c κs. search needs) (λ c κs. search needs)
+    (λ c. search needs) returns-3 (λ c κs. search needs) (λ c κs. search needs) (λ c κs. search needs)
+    (λ c. search needs) returns-4)

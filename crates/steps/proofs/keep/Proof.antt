@@ -14,8 +14,14 @@ returns-2 c g session slot =
 returns-3 : tie.Need-returns-3
 returns-3 c g session slot =
     let t = c .before .before .before .before .before .before .before in
-    rw (c .before .before .before .before .enum-told3 .given .1, ← keep-slot (readState (t .args .state .now)) g (t .args .at) (t .pre .1), ← slot)
+    rw (
+      c .before .before .before .before .enum-told3 .given .1,
+      ← keep-slot (readState (t .args .state .now)) g (t .args .at)
+          (t .pre .1),
+      ← slot,
+    )
     (c .before .before .write-slot .ensures)
 
 pub keep-spec : {M : Type 1} → statement M
-keep-spec = tie.close (tie.spec (λ c. search needs) (λ c. search needs) (λ c κs. search needs) (λ c. search needs) (λ c κs. search needs) returns (λ c. search needs) returns-2 (λ c. search needs) returns-3)
+keep-spec = tie.close (tie.spec (λ c. search needs) (λ c. search needs) (λ c κs. search needs) (λ c. search needs)
+    (λ c κs. search needs) returns (λ c. search needs) returns-2 (λ c. search needs) returns-3)

@@ -68,10 +68,13 @@ entering c κs =
       t .pre .0,
       k .running-at .ensures,
       r .read-session .ensures,
-      its-slot (fixedBy (a .policy .now)) (readState (a .state .now)) (a .p) (a .u) (r .read-session .result) (r .read-session .ensures)
+      its-slot (fixedBy (a .policy .now)) (readState (a .state .now)) (a .p) (a .u) (r .read-session .result)
+          (r .read-session .ensures)
           (n .if1 .left) (k .running-at .result) (k .running-at .ensures) (x .read-slot .result) (x .read-slot .ensures),
       t .pre .2,
     )
 
 pub request-spec : {M : Type 1} → statement M
-request-spec = tie.close (tie.spec (λ c κs. search needs) (λ c κs. search needs) (λ c. search needs) returns (λ c κs. search needs) (λ c κs. search needs) (λ c κs. search needs) (λ c κs. search needs) (λ c κs. search needs) (λ c κs. search needs) (λ c. search needs) returns-2 entering (λ c. search needs) returns-3)
+request-spec = tie.close (tie.spec (λ c κs. search needs) (λ c κs. search needs)
+    (λ c. search needs) returns (λ c κs. search needs) (λ c κs. search needs) (λ c κs. search needs) (λ c κs. search needs)
+    (λ c κs. search needs) (λ c κs. search needs) (λ c. search needs) returns-2 entering (λ c. search needs) returns-3)

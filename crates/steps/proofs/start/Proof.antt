@@ -7,7 +7,8 @@ returns : tie.Need-returns
 returns c f =
     let r = c .before .before .before .before in
     let t = r .before .before .before in
-    did (start-busy f (t .args .state .now) (r .read-session .result) (r .read-session .ensures) (t .args .i) (c .before .if1 .taken))
+    did (start-busy f (t .args .state .now) (r .read-session .result) (r .read-session .ensures) (t .args .i)
+    (c .before .if1 .taken))
     (c .plain .ensures) (t .pre)
 
 returns-2 : tie.Need-returns-2
@@ -34,4 +35,6 @@ returns-3 c f =
 
 pub start-spec : {M : Type 1} → statement M
 start-spec =
-    tie.close (tie.spec (λ c κs. search needs) (λ c κs. search needs) (λ c. search needs) returns (λ c κs. search needs) (λ c κs. search needs) (λ c. search needs) returns-2 (λ c κs. search needs) (λ c κs. search needs) (λ c κs. search needs) (λ c. search needs) returns-3)
+    tie.close (tie.spec (λ c κs. search needs) (λ c κs. search needs) (λ c. search needs) returns (λ c κs. search needs)
+    (λ c κs. search needs) (λ c. search needs) returns-2 (λ c κs. search needs) (λ c κs. search needs) (λ c κs. search needs)
+    (λ c. search needs) returns-3)

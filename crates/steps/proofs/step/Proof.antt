@@ -11,7 +11,8 @@ returns : tie.Need-returns
 unfolding step
 returns c =
     let t = c .before .before .before .before .before .before in
-    rw (c .before .before .enum-told .given .1) (unknown-yet (c .unknown .ensures) (did refl (c .before .plain .ensures) (t .pre .0)))
+    rw (c .before .before .enum-told .given .1) (unknown-yet (c .unknown .ensures) (did refl (c .before .plain .ensures)
+    (t .pre .0)))
 
 returns-2 : tie.Need-returns-2
 returns-2 c =
@@ -45,4 +46,8 @@ named c κs =
 pub step-spec : {M : Type 1} → statement M
 step-spec =
     tie.close
-    (tie.spec (λ c. search needs) (λ c κs. search needs) (λ c κs. search needs) (λ c. search needs) (λ c κs. search needs) (λ c κs. search needs) (λ c. search needs) (λ c κs. search needs) (λ c κs. search needs) (λ c. search needs) (λ c κs. search needs) (λ c κs. search needs) (λ c. search needs) (λ c κs. search needs) (λ c κs. search needs) (λ c. search needs) named returns (λ c. search needs) returns-2 (λ c. search needs) returns-3 (λ c. search needs) returns-4 (λ c. search needs) returns-5 (λ c. search needs) returns-6)
+    (tie.spec (λ c. search needs) (λ c κs. search needs) (λ c κs. search needs) (λ c. search needs) (λ c κs. search needs)
+    (λ c κs. search needs) (λ c. search needs) (λ c κs. search needs) (λ c κs. search needs) (λ c. search needs)
+    (λ c κs. search needs) (λ c κs. search needs) (λ c. search needs) (λ c κs. search needs) (λ c κs. search needs)
+    (λ c. search needs) named returns (λ c. search needs) returns-2 (λ c. search needs) returns-3
+    (λ c. search needs) returns-4 (λ c. search needs) returns-5 (λ c. search needs) returns-6)

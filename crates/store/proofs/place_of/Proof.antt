@@ -21,7 +21,8 @@ returns : tie.Need-returns Inv-loop μ-loop
 returns c =
     let l = c .before .before .before in
     let a = l .before .before .args in
-    place-hit (a .state .now) (a .suite) (l .loop .k) (l .loop .inv) (search needs) (sym (c .before .read16 .ensures) ∙ c .if1 .taken)
+    place-hit (a .state .now) (a .suite) (l .loop .k) (l .loop .inv) (search needs) (sym (c .before .read16 .ensures)
+    ∙ c .if1 .taken)
 
 loop-again : tie.Need-loop-again Inv-loop μ-loop
 loop-again c =

@@ -12,7 +12,12 @@ unfolding bytesOf
 returns c =
     let a = c .before .before .before .before .before .before .before .before .before .args in
     let e : a .x / 256 % 256 ≡ a .x / 256 = omega arith in
-    rw (c .before .before .write82 .ensures, c .before .before .before .before .before .before .write8 .ensures, e, ← add-one (a .i))
+    rw (
+      c .before .before .write82 .ensures,
+      c .before .before .before .before .before .before .write8 .ensures,
+      e,
+      ← add-one (a .i),
+    )
 
 pub write16-spec : {M : Type 1} → statement M
 write16-spec =

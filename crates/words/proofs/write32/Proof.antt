@@ -5,7 +5,11 @@ use Rattle.words.proofs.write32.Tie as tie
 
 returns : tie.Need-returns
 returns c =
-    rw (c .before .before .write162 .ensures, c .before .before .before .before .before .before .write16 .ensures, ← sets-bytes 2 2)
+    rw (
+      c .before .before .write162 .ensures,
+      c .before .before .before .before .before .before .write16 .ensures,
+      ← sets-bytes 2 2,
+    )
 
 pub write32-spec : {M : Type 1} → statement M
 write32-spec =

@@ -5,7 +5,11 @@ use Rattle.words.proofs.write64.Tie as tie
 
 returns : tie.Need-returns
 returns c =
-    rw (c .before .before .write322 .ensures, c .before .before .before .before .before .before .write32 .ensures, ← sets-bytes 4 4)
+    rw (
+      c .before .before .write322 .ensures,
+      c .before .before .before .before .before .before .write32 .ensures,
+      ← sets-bytes 4 4,
+    )
 
 pub write64-spec : {M : Type 1} → statement M
 write64-spec =
