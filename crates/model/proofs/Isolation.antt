@@ -29,7 +29,7 @@ use Rattle.model.specs.Step.{Outcome, answer, running, lacking, installe
 use Rattle.model.specs.Step.{slotDeciding, keep, enter, request, step}
 use Rattle.model.specs.Isolation.{slotSeen, sessionSeen, seen, Alike, runs, marked, asks, MayReplace, Replaced, Equal}
 use Rattle.model.specs.Isolation.{Place, Isolated}
-use Rattle.model.proofs.Tests.{cases}
+use Rattle.model.proofs.Tests.{neither, cases}
 use Rattle.model.proofs.Slots.{same-suite}
 use Rattle.model.proofs.Kept.{record-kept}
 
@@ -318,10 +318,6 @@ module _ (f : Fixed) (w : Suite) where
       λ x. let (a, a') = neither (asks e) (asks e') (rw r at x) in unread s e h a ∙ sym (unread t e' h' a'),
       left s r e h ∙ alike ∙ sym (left t (runs-same ∙ r) e' h'),
     )
-      where
-        neither : (a b : Bool) → (a || b) ≡ false → (a ≡ false) × (b ≡ false)
-        neither false b x = (refl, x)
-        neither true b x = absurd (true≢false x)
 
     pub equal-still : Equal w s t
     unfolding seen

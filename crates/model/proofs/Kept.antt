@@ -28,7 +28,7 @@ use Rattle.model.specs.Policy.{Fixed, offered}
 use Rattle.model.specs.State.{State, new, withSession, withSlots, undecided, free, idle, carries, find, amend}
 use Rattle.model.specs.Valid.{_⇒_, declared, clear, fits, installable, slotSound, among, slotDecided}
 use Rattle.model.specs.Valid.{slotValid, slotsValid, sessionSound, fitsBeside, sessionDecided, sessionValid, valid}
-use Rattle.model.specs.Events.{carried, eventIn, equal, writeEvent, readEvent}
+use Rattle.model.specs.Events.{carried, readEvent}
 use Rattle.model.specs.Answers.{refused}
 use Rattle.model.specs.Decision.{standing, given, grant, revoke}
 use Rattle.model.specs.Step.{Outcome, answer, running, lacking, installed, runningSlot, judged, sessionDeciding}
@@ -41,10 +41,11 @@ use Rattle.model.proofs.Slots.{find-put}
 use Rattle.model.proofs.Entering.{Taken, taken, Undecided, none-stands, Enters, grant-enters, revoke-enters}
 use Rattle.model.proofs.Entering.{session-enters, slot-enters, slot-enters-beside}
 use Rattle.model.proofs.ValidSlots.{decide-slot, put-slot}
+use Rattle.model.proofs.RoundTrip.{read-event}
 
 -- ---- nothing is decided yet
 
-slot-undecided : (f : Fixed) (x : Slot) → x .decisions ≡ undecided → slotDecided f x ≡ true
+pub slot-undecided : (f : Fixed) (x : Slot) → x .decisions ≡ undecided → slotDecided f x ≡ true
 unfolding slotDecided declared
 slot-undecided f x e = rw e (every-all (fits f x blanket undecided) (λ p l. rw (member-none (p .0))))
 
@@ -66,7 +67,7 @@ sound-deciding : (f : Fixed) (g : Decisions → Decisions) (x : Slot) → same (
 unfolding slotSound installable
 sound-deciding f g x n h = rw n (rw (n, slotSound) at h)
 
-none-lacking : (f : Fixed) (x : Descriptor) (d : Domain) → isPermission (lacking f x d) ≡ false → (p : Permission) → p .0 < 64
+pub none-lacking : (f : Fixed) (x : Descriptor) (d : Domain) → isPermission (lacking f x d) ≡ false → (p : Permission) → p .0 < 64
     → (has (x .required) p ⇒ offered (f .cell d p)) ≡ true
 unfolding lacking lowest
 none-lacking f x d n p l =
@@ -92,20 +93,20 @@ install-sound f i x d h n =
 -- ---- the theorem
 
 module _ (f : Fixed) (s : State) (v : valid f s ≡ true) where
-  record Holds : Type 0 where
-    count : eqb (length (s .slots)) slotCount ≡ true
-    slots : slotsValid f [] (s .slots) ≡ true
-    sound : sessionSound s ≡ true
-    decided : sessionDecided f (s .session) (runningSlot s) ≡ true
+  pub record Holds : Type 0 where
+    pub count : eqb (length (s .slots)) slotCount ≡ true
+    pub slots : slotsValid f [] (s .slots) ≡ true
+    pub sound : sessionSound s ≡ true
+    pub decided : sessionDecided f (s .session) (runningSlot s) ≡ true
 
-  holds : Holds
+  pub holds : Holds
   unfolding valid sessionValid
   holds =
       let (count, slots, both-right) = all-three _ _ _ v in
       let (sound, decided) = both (sessionSound s) (sessionDecided f (s .session) (runningSlot s)) both-right in
       record { count = count; slots = slots; sound = sound; decided = decided }
 
-  is-installed : running s ≡ true → carries (s .session .suite) (s .slots) ≡ true
+  pub is-installed : running s ≡ true → carries (s .session .suite) (s .slots) ≡ true
   unfolding sessionSound
   is-installed run = rw (not-true (same (s .session .suite) noSuite) run, sessionSound) at (holds .sound)
 
@@ -254,13 +255,8 @@ pub kept : (f : Fixed) (s : State) → valid f s ≡ true → (e : Event) → ca
 kept f s v e c = event-kept f s v e c .ok
 
 pub record-kept : (f : Fixed) (s : State) → valid f s ≡ true → (b : List ℕ) → valid f (step f s (readEvent b) .state) ≡ true
-unfolding readEvent step
-record-kept f s v b = go (carried (eventIn b)) (equal (writeEvent (eventIn b)) b) refl
-  where
-    go : (c t : Bool) → carried (eventIn b) ≡ c → valid f (step f s (cond (c && t) (eventIn b) Unreadable) .state) ≡ true
-    go true true h = kept f s v (eventIn b) h
-    go true false h = v
-    go false t h = v
+unfolding step
+record-kept f s v b = read-event (λ e. valid f (step f s e .state) ≡ true) b v (kept f s v)
 
 pub run-kept : (f : Fixed) (s : State) → valid f s ≡ true → (b : List ℕ) (n i : ℕ) → valid f (after f s (eventsFrom b n i)) ≡ true
 unfolding after eventsFrom

@@ -8,9 +8,9 @@ pub mod Slots
 pub mod ValidSlots
 pub mod Entering
 pub mod Right
+pub mod RoundTrip
 pub mod Kept
 pub mod Runs
-pub mod RoundTrip
 pub mod Calls
 pub mod Isolation
 pub mod Faulty

@@ -35,6 +35,17 @@ same-equal (x ∷ l) (y ∷ m) h =
     let (here, more) = both (eqb x y) (equal l m) h in
     ap₂ _∷_ (eqb-true x y here) (same-equal l m more)
 
+-- ---- a record that is read is an event that a record carries, or none
+
+pub read-event {ℓ} : (P : Event → Type ℓ) (b : List ℕ) → P Unreadable → ((e : Event) → carried e ≡ true → P e) → P (readEvent b)
+unfolding readEvent
+read-event P b none some = go (carried (eventIn b)) (equal (writeEvent (eventIn b)) b) refl
+  where
+    go : (c t : Bool) → carried (eventIn b) ≡ c → P (cond (c && t) (eventIn b) Unreadable)
+    go true true h = some (eventIn b) h
+    go true false h = none
+    go false t h = none
+
 -- ---- a record that is read and written back
 
 pub written-back : (b : List ℕ) → carried (readEvent b) ≡ true → writeEvent (readEvent b) ≡ b

@@ -150,7 +150,7 @@ carries-at (x ∷ xs) zero h = rw (eq-eqb (x .suite .0) (x .suite .0) refl)
 carries-at (x ∷ xs) (suc k) h = rw (carries-at xs k (omega arith), or-true)
 
 -- a number of a lower slot stands in no slot above
-not-again : (f : Fixed) (lower : List Suite) (l : List Slot) (i : Suite) → slotsValid f lower l ≡ true → same i noSuite ≡ false
+pub not-again : (f : Fixed) (lower : List Suite) (l : List Slot) (i : Suite) → slotsValid f lower l ≡ true → same i noSuite ≡ false
     → among i lower ≡ true → carries i l ≡ false
 unfolding carries among
 not-again f lower [] i v n m = refl

@@ -1,6 +1,6 @@
 -- What a checked state and a record that is read give to a step, and a step and a run by their tests. Assumes nothing.
 use mathlib.Core.Path.{_≡_, refl, sym}
-use mathlib.Core.Bool.{Bool, true, false, _&&_, cond}
+use mathlib.Core.Bool.{Bool, true, false, _&&_}
 use mathlib.Core.List.{List}
 use Prim.Native.Nat.{ℕ, _*_, _/_, _%_, _<_}
 use lib.ListN.{length, getD}
@@ -11,11 +11,12 @@ use Rattle.model.specs.declared.Event.the-variants.{Unreadable, Install, Remove
 use Rattle.model.specs.declared.Response.{Response}
 use Rattle.model.specs.Policy.{fixedBy}
 use Rattle.model.specs.State.{readState}
-use Rattle.model.specs.Events.{carried, eventIn, equal, writeEvent, readEvent}
+use Rattle.model.specs.Events.{carried, readEvent}
 use Rattle.model.specs.Answers.{refused, DONE, BAD-LENGTH}
 use Rattle.model.specs.Step.{step}
 use Rattle.model.specs.Calls.{leaving, checkCall, stepCall, eventsFrom, runCall, counted}
 use Rattle.model.proofs.Tests.{both}
+use Rattle.model.proofs.RoundTrip.{read-event}
 use Rattle.model.proofs.Calls.{passed}
 use Rattle.store.specs.Holds.{WellFormed}
 use Rattle.store.proofs.Zeros.{right-formed}
@@ -24,8 +25,7 @@ use Rattle.monitor.specs.Turned.{RanThrough}
 
 -- a record that is read names a permission of the device
 pub read-named : (b : List ℕ) → named (readEvent b) ≡ true
-unfolding readEvent
-read-named b = go (carried (eventIn b)) (equal (writeEvent (eventIn b)) b) refl
+read-named b = read-event (λ e. named e ≡ true) b refl event
   where
     event : (e : Event) → carried e ≡ true → named e ≡ true
     event Unreadable h = refl
@@ -34,11 +34,6 @@ read-named b = go (carried (eventIn b)) (equal (writeEvent (eventIn b)) b) refl
     event (Start i) h = refl
     event Terminate h = refl
     event (Request p u) h = h
-
-    go : (c t : Bool) → carried (eventIn b) ≡ c → named (cond (c && t) (eventIn b) Unreadable) ≡ true
-    go true true h = event (eventIn b) h
-    go true false h = refl
-    go false t h = refl
 
 -- checked bytes hold a state
 pub checked-formed : (policy b : List ℕ) → ((k : ℕ) → getD b k 0 < 256) → refused (checkCall policy b) ≡ false → WellFormed b

@@ -48,6 +48,17 @@ firstFrom-none f (suc n) i k a l = go (f i) (firstFrom f n (suc i)) refl (firstF
     go true x e r l = absurd (omega arith)
     go false x e r l = ⊎-elim (λ q. rw (← q) e) (λ m. r m l) (eq-or-lt-of-le a)
 
+-- it passes, where it is one of them
+pub firstFrom-passes : (f : ℕ → Bool) (n i : ℕ) → firstFrom f n i < i + n → f (firstFrom f n i) ≡ true
+unfolding firstFrom
+firstFrom-passes f zero i l = absurd (omega arith)
+firstFrom-passes f (suc n) i l = go (f i) refl l (firstFrom-passes f n (suc i))
+  where
+    go : (b : Bool) → f i ≡ b → cond b i (firstFrom f n (suc i)) < i + suc n
+        → (firstFrom f n (suc i) < suc i + n → f (firstFrom f n (suc i)) ≡ true) → f (cond b i (firstFrom f n (suc i))) ≡ true
+    go true e l r = e
+    go false e l r = r (omega arith)
+
 pub allFrom-all : (f : ℕ → Bool) (n i : ℕ) → ((k : ℕ) → i ≤ k → k < i + n → f k ≡ true) → allFrom f n i ≡ true
 unfolding allFrom
 allFrom-all f zero i h = refl

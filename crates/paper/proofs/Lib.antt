@@ -1,0 +1,14 @@
+pub mod Changes
+pub mod Invariants
+pub mod Coherence
+pub mod Cells
+pub mod Suites
+pub mod Decided
+pub mod Refined
+pub mod Events
+pub mod Running
+pub mod Requests
+pub mod Simulation
+pub mod Departures
+pub mod Meaning
+pub mod Theorems
