@@ -2,8 +2,8 @@
 use mathlib.Core.Path.{_≡_, refl, ap, sym, _∙_}
 use mathlib.Core.Bool.{Bool, true, _&&_, _||_}
 use mathlib.Core.List.{List}
-use Prim.Native.Nat.{ℕ, zero, suc, _+_, _-_, _*_, _^_, _%_, _≤_, _<_}
-use native.Mathlib.Nat.{lt-of-lt-of-le, zero-add}
+use Prim.Native.Nat.{ℕ, zero, suc, _+_, _-_, _*_, _^_, _/_, _%_, _≤_, _<_}
+use native.Mathlib.Nat.{lt-of-lt-of-le, zero-add, pow-succ', mul-assoc}
 use native.Mathlib.Omega.{arith}
 use lib.Bits.{bitAnd, bitOr, or-lt, and-lt}
 use lib.Dec.{eqb, leb}
@@ -19,7 +19,8 @@ use Rattle.model.specs.declared.Mode.the-variants.{Oneshot, Session, Blanket}
 use Rattle.model.specs.Policy.{Fixed, fixedBy, policyRight, highest, offered, admits}
 use Rattle.model.proofs.Tests.{both}
 use Rattle.checks.specs.declared.Row.{Row}
-use Rattle.checks.specs.Rows.{setFrom, those, admitting, rowOf, rowsFrom, rowsOf, RowIs}
+use Rattle.words.specs.Numbers.{leAt}
+use Rattle.checks.specs.Rows.{setFrom, lowBits, those, admitting, rowOf, rowsFrom, rowsOf, RowIs}
 use Rattle.checks.proofs.Sets.{setFrom-lt, set-member, those-lt, those-has}
 
 -- ---- the three bits of the cells
@@ -29,17 +30,88 @@ module _ (b : List ℕ) (start k : ℕ) where
   abbrev pub planeFrom : ℕ → ℕ
   planeFrom p = setFrom (λ n. member (getD b (start + n) 0) k) (64 - p) p
 
-  pub plane-next : {s : ℕ} (p : ℕ) → s ≡ planeFrom p → 0 < p → p ≤ 64
-      → 2 * s + bit (getD b (start + (p - 1)) 0) k ≡ planeFrom (p - 1)
-  unfolding setFrom
-  plane-next p h l m =
-      let e : 64 - (p - 1) ≡ suc (64 - p) = omega arith in
-      let q : suc (p - 1) ≡ p = omega arith in
-      rw (h, e, q, ← bit-member) (omega arith)
+  -- d is worth 2 ^ k: what a word of cells, and one of its bytes, leave over
+  abbrev Splits : ℕ → Type 0
+  Splits d = (c w : ℕ) → c < 256 → ((c + 256 * w) / d % 2 ≡ bit c k) × ((c + 256 * w) / d / 256 ≡ w / d)
 
-  -- it can be doubled
-  pub plane-small : {s : ℕ} (p : ℕ) → s ≡ planeFrom p → 0 < p → s < 2 ^ 63
-  plane-small p h l = rw h (lt-of-lt-of-le (setFrom-lt _ (64 - p) p) (pow-mono {j = 63} (omega arith)))
+  gathered : (d : ℕ) → Splits d → ((i : ℕ) → getD b i 0 < 256) → (n m p : ℕ)
+      → lowBits n (leAt n b (start + p) / d) + 2 ^ n * setFrom (λ i. member (getD b (start + i) 0) k) m (p + n)
+      ≡ setFrom (λ i. member (getD b (start + i) 0) k) (n + m) p
+  unfolding lowBits leAt setFrom
+  gathered d h bytes zero m p =
+      let e : p + 0 ≡ p = omega arith in
+      let z : 0 + m ≡ m = omega arith in
+      rw (e, z) (omega arith)
+  gathered d h bytes (suc n) m p =
+      let c = getD b (start + p) 0 in
+      let e : start + p + 1 ≡ start + suc p = omega arith in
+      let q : p + suc n ≡ suc p + n = omega arith in
+      let z : suc n + m ≡ suc (n + m) = omega arith in
+      let (low, rest) = h c (leAt n b (start + suc p)) (bytes (start + p)) in
+      rw (e, q, z, low, rest, bit-member c k, pow-succ', mul-assoc) (omega (arith, gathered d h bytes n m (suc p)))
+
+  -- w: the four cells before p; r: their bits
+  pub four-more : (d : ℕ) → Splits d → ((i : ℕ) → getD b i 0 < 256) → {s w r : ℕ} (p : ℕ) → s ≡ planeFrom p → 4 ≤ p → p ≤ 64
+      → w ≡ leAt 4 b (start + (p - 4)) → r ≡ lowBits 4 (w / d) → 16 * s + r ≡ planeFrom (p - 4)
+  four-more d h bytes p e l m cells bits =
+      let q : p - 4 + 4 ≡ p = omega arith in
+      let z : 4 + (64 - p) ≡ 64 - (p - 4) = omega arith in
+      let g = rw (q, z) at (gathered d h bytes 4 (64 - p) (p - 4)) in
+      rw (bits, cells, e) (omega (arith, g))
+
+  -- it can be had sixteen times
+  pub plane-small : {s p : ℕ} → s ≡ planeFrom p → p % 4 ≡ 0 → 0 < p → s < 2 ^ 60
+  plane-small {p = p} h n l = rw h (lt-of-lt-of-le (setFrom-lt _ (64 - p) p) (pow-mono {j = 60} (omega arith)))
+
+pub splits-1 : (b : List ℕ) (start : ℕ) → Splits b start 0 1
+unfolding bit
+splits-1 b start c w l = (omega arith, omega arith)
+
+pub splits-2 : (b : List ℕ) (start : ℕ) → Splits b start 1 2
+unfolding bit
+splits-2 b start c w l = (omega arith, omega arith)
+
+pub splits-4 : (b : List ℕ) (start : ℕ) → Splits b start 2 4
+unfolding bit
+splits-4 b start c w l = (omega arith, omega arith)
+
+pub low-bits-lt : {r : ℕ} (w : ℕ) → r ≡ lowBits 4 w → r < 16
+unfolding lowBits
+low-bits-lt w e = rw e (omega arith)
+
+-- ---- four lowest bits by one product
+
+abbrev spread : ℕ → ℕ
+spread n = n % 2 + 256 * (n / 2 % 2) + 65536 * (n / 2 / 2 % 2) + 16777216 * (n / 2 / 2 / 2 % 2)
+
+-- at all sixteen
+gathers : allFrom (λ n. eqb (spread n * 2113665 / 2097152 % 16) n) 16 0 ≡ true
+unfolding allFrom
+gathers = refl
+
+of-bits : (x y z t : ℕ) → x < 2 → y < 2 → z < 2 → t < 2
+    → (x + 256 * y + 65536 * z + 16777216 * t) * 2113665 / 2097152 % 16 ≡ x + 2 * (y + 2 * (z + 2 * (t + 2 * 0)))
+of-bits x y z t a b c d =
+    let n = x + 2 * (y + 2 * (z + 2 * (t + 2 * 0))) in
+    let (e, p) = halved x (y + 2 * (z + 2 * (t + 2 * 0))) a in
+    let (f, q) = halved y (z + 2 * (t + 2 * 0)) b in
+    let (g, r) = halved z (t + 2 * 0) c in
+    let (h, _) = halved t 0 d in
+    rw (p, q, r, e, f, g, h) at (eqb-true (spread n * 2113665 / 2097152 % 16) n
+    (allFrom-at (λ n. eqb (spread n * 2113665 / 2097152 % 16) n) 16 0 gathers n (omega arith) (omega arith)))
+  where
+    halved : (x m : ℕ) → x < 2 → ((x + 2 * m) % 2 ≡ x) × ((x + 2 * m) / 2 ≡ m)
+    halved x m l = (omega arith, omega arith)
+
+pub by-product : (w : ℕ)
+    → (w % 2 + 256 * (w / 256 % 2) + 65536 * (w / 65536 % 2) + 16777216 * (w / 16777216 % 2)) * 2113665 / 2097152 % 16
+    ≡ lowBits 4 w
+unfolding lowBits
+by-product w =
+    let e : w / 65536 ≡ w / 256 / 256 = omega arith in
+    let f : w / 16777216 ≡ w / 256 / 256 / 256 = omega arith in
+    rw (e, f) (of-bits (w % 2) (w / 256 % 2) (w / 256 / 256 % 2) (w / 256 / 256 / 256 % 2)
+    (omega arith) (omega arith) (omega arith) (omega arith))
 
 pub right-size : (b : List ℕ) → policyRight b ≡ true → length b ≡ 512
 unfolding policyRight

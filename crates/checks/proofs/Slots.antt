@@ -1,13 +1,13 @@
 -- A slot and a session against the sets of their domain's row, and the walk over the slots. Assumes nothing.
-use mathlib.Core.Path.{_≡_, ap, sym, _∙_}
-use mathlib.Core.Bool.{Bool, true, false, not, _&&_, _||_, cond, and-false, and-assoc}
+use mathlib.Core.Path.{_≡_, refl, ap, sym, _∙_}
+use mathlib.Core.Bool.{Bool, true, false, not, _&&_, _||_, cond, and-false, and-assoc, or-false, or-assoc}
 use mathlib.Core.List.{List}
 use Prim.Native.Nat.{ℕ, suc, _+_, _-_, _*_, _^_, _≤_, _<_}
 use native.Mathlib.Numerals.{add-one}
 use native.Mathlib.Omega.{arith}
 use lib.Bits.{bitAnd, bitOr}
 use lib.Dec.{eqb}
-use borrow.Author.Tests.{lt-ltb, le-ltb, eq-eqb, ne-eqb, eqb-true}
+use borrow.Author.Tests.{lt-ltb, le-ltb, eq-eqb, ne-eqb, eqb-true, eqb-false}
 use Rattle.words.specs.Numbers.{leAt}
 use Rattle.words.proofs.Sets.{member-or, member-and}
 use Rattle.model.specs.declared.Permission.{Permission}
@@ -59,17 +59,30 @@ module _ (f : Fixed) (x : Slot) (m : Mode) (d : Decisions) (small : Small d) whe
 
 -- ---- the numbers of the lower slots
 
+eqb-sym : (a b : ℕ) → eqb a b ≡ eqb b a
+eqb-sym a b = go (eqb b a) refl
+  where
+    go : (t : Bool) → eqb b a ≡ t → eqb a b ≡ t
+    go true e = eq-eqb a b (sym (eqb-true b a e))
+    go false e = ne-eqb a b (λ k. eqb-false b a e (sym k))
+
+-- below the lowest there is none
+pub lower-none : (b : List ℕ) (i : Suite) {whole : Bool} (seen : Bool) (j : ℕ) → j ≡ 0 → whole ≡ (seen || among i (lowerOf b j))
+    → whole ≡ seen
+unfolding lowerOf among
+lower-none b i seen j e w = (rw e at w) ∙ or-false seen
+
 module _ (b : List ℕ) (i : Suite) (j : ℕ) (l : 0 < j) where
   lower-turn : among i (lowerOf b j) ≡ (eqb (i .0) (leAt 2 b (40 + 40 * (j - 1))) || among i (lowerOf b (j - 1)))
   unfolding lowerOf among slotAt
   lower-turn = let e : j ≡ suc (j - 1) = omega arith in ap (λ n. among i (lowerOf b n)) e
 
-  -- the highest of them has the number
-  pub lower-hit : leAt 2 b (40 + 40 * (j - 1)) ≡ i .0 → among i (lowerOf b j) ≡ true
-  lower-hit h = lower-turn ∙ rw (eq-eqb _ _ (sym h))
-
-  pub lower-pass : (leAt 2 b (40 + 40 * (j - 1)) ≡ i .0 → ⊥) → among i (lowerOf b j) ≡ among i (lowerOf b (j - 1))
-  lower-pass h = lower-turn ∙ rw (ne-eqb _ _ (λ e. h (sym e)))
+  -- x: the number of the highest of them; `seen`: among those above
+  pub lower-more : {whole : Bool} {x : ℕ} (seen : Bool) → whole ≡ (seen || among i (lowerOf b j)) → x ≡ leAt 2 b (40 + 40 * (j - 1))
+      → whole ≡ ((seen || eqb x (i .0)) || among i (lowerOf b (j - 1)))
+  lower-more {x = x} seen w e =
+      w ∙ ap (λ t. seen || t) lower-turn
+      ∙ rw (or-assoc seen (eqb x (i .0)) (among i (lowerOf b (j - 1))), ← e, eqb-sym (i .0) x)
 
 -- ---- a slot in itself
 

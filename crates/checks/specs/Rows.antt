@@ -1,5 +1,5 @@
 -- A policy's rows as sets of permissions, so that a slot is tested a word at a time: a step between 01's rules and the code.
-use Prim.Native.Nat.{ℕ, zero, suc, _+_, _*_}
+use Prim.Native.Nat.{ℕ, zero, suc, _+_, _*_, _/_, _%_}
 use mathlib.Core.Path.{_≡_}
 use mathlib.Core.Bool.{Bool, true, cond}
 use mathlib.Core.List.{List, [], _∷_}
@@ -15,6 +15,11 @@ use Rattle.checks.specs.declared.Row.{Row}
 unfoldable pub setFrom : (ℕ → Bool) → ℕ → ℕ → ℕ
 setFrom f zero i = 0
 setFrom f (suc n) i = cond (f i) 1 0 + 2 * setFrom f n (suc i)
+
+-- the lowest bits of the n lowest bytes of w, the lowest byte's lowest
+unfoldable pub lowBits : ℕ → ℕ → ℕ
+lowBits zero w = 0
+lowBits (suc n) w = w % 2 + 2 * lowBits n (w / 256)
 
 -- the permissions that pass t
 unfoldable pub those : (Permission → Bool) → ℕ

@@ -12,7 +12,7 @@ ghost use Rattle.model.specs.State.{recordSize, stateSize, slotAt, sessionZeros
 ghost use Rattle.model.specs.Valid.{_⇒_, clear, allRight, fits, blank, slotSound, ownNumber, slotDecided};
 ghost use Rattle.model.specs.Valid.{sessionDecided, sessionValid, slotsRight, stateRight};
 ghost use Rattle.model.specs.Calls.{leaving, newCall, checkCall, findCall, partCall};
-ghost use Rattle.checks.specs.Rows.{admitting, rowOf, rowsOf, RowIs};
+ghost use Rattle.checks.specs.Rows.{lowBits, admitting, rowOf, rowsOf, RowIs};
 ghost use Rattle.checks.specs.Walk.{lowerOf, slotRight};
 ghost use Rattle.checks.specs.Parts.{IsPart};
 
@@ -57,7 +57,18 @@ fn apart(a: u64, b: u64) -> bool
 
 // ---- the rows of the policy
 
-// From the three bits of its cells: 1, 2 and 3 have the user asked, and 4 is the one that has the bit worth 4.
+// The lowest bits of four cells, the first one's lowest. The product has bit 8i of them at 21 + i, and no two of its terms meet.
+fn low_bits(cells: u32) -> u64
+    ensures { λ r. ⌜ r ≡ lowBits 4 cells ⌝ }
+{
+    let bits = cells % 2
+        + 256 * (cells / 256 % 2)
+        + 65536 * (cells / 65536 % 2)
+        + 16777216 * (cells / 16777216 % 2);
+    (bits as u64) * 2113665 / 2097152 % 16
+}
+
+// From the three bits of its cells: 1, 2 and 3 have the user asked, and 4 is the one that has the bit worth 4. Four cells at a time.
 fn row_of(policy: &[u8], domain: usize) -> Row
     requires { ⌜ (policyRight (now policy) ≡ true) × (domain < 8) ⌝ }
     ensures { λ r. ⌜ r ≡ rowOf (fixedBy (now (policy .entry))) (record { 0 = domain }) ⌝ }
@@ -68,11 +79,11 @@ fn row_of(policy: &[u8], domain: usize) -> Row
     let mut fours: u64 = 0;
     let mut p: usize = 64;
     while 0 < p {
-        p -= 1;
-        let cell = policy[start + p];
-        ones = 2 * ones + (cell % 2) as u64;
-        twos = 2 * twos + (cell / 2 % 2) as u64;
-        fours = 2 * fours + (cell / 4 % 2) as u64;
+        p -= 4;
+        let cells = words::read32(policy, start + p);
+        ones = 16 * ones + low_bits(cells);
+        twos = 16 * twos + low_bits(cells / 2);
+        fours = 16 * fours + low_bits(cells / 4);
     }
     Row {
         offered: ones | twos | fours,
@@ -139,14 +150,13 @@ fn own_number(state: &[u8], k: usize, suite: model::Suite) -> bool
     if n == 0 {
         return true;
     }
+    let mut seen = false;
     let mut j = k;
     while 0 < j {
         j -= 1;
-        if words::read16(state, 40 + 40 * j) == n {
-            return false;
-        }
+        seen = seen | (words::read16(state, 40 + 40 * j) == n);
     }
-    true
+    !seen
 }
 
 // The decisions d of x's suite: grants are declared and of the sort that may be granted, revocations declared and of

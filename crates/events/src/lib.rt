@@ -3,7 +3,7 @@ ghost use mathlib.Core.Path.{_≡_};
 ghost use mathlib.Core.Bool.{cond};
 ghost use lib.ListN.{length};
 ghost use Rattle.model.specs.declared.Event.the-variants.{Unreadable};
-ghost use Rattle.model.specs.Events.{carried, readEvent};
+ghost use Rattle.model.specs.Events.{carried, layout, readEvent};
 ghost use Rattle.model.specs.Calls.{leaving, writeCall};
 ghost use Rattle.events.specs.Fields.{fieldsAt, fieldsOf, eventOf, sameFields, fieldBytes};
 
@@ -180,4 +180,31 @@ pub fn write_event(event: model::Event, bytes: &mut [u8]) -> model::Response
         return model::Response::plain(30);
     }
     model::Response::plain(18)
+}
+
+// The event whose record has these numbers; `Unreadable` where no record has.
+pub fn event_with(
+    kind: u8,
+    domain: u8,
+    suite: u16,
+    permission: u8,
+    answer: u8,
+    required: u64,
+    optional: u64,
+) -> model::Event
+    ensures { λ r. ⌜ r ≡ readEvent (layout kind domain suite permission answer required optional) ⌝ }
+{
+    let f = Fields {
+        kind: kind,
+        domain: domain,
+        suite: suite,
+        permission: permission,
+        answer: answer,
+        pad: 0,
+        required: required,
+        optional: optional,
+    };
+    let mut bytes = [0u8; 24];
+    put_fields(&mut bytes, f);
+    read_event(&bytes)
 }

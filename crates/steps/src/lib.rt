@@ -97,17 +97,19 @@ fn remove(state: &mut [u8], i: model::Suite) -> model::Response
     model::Response::plain(0)
 }
 
-fn start(state: &mut [u8], i: model::Suite) -> model::Response
+fn start(state: &mut [u8], i: model::Suite) -> Done
     requires { ⌜ WellFormed (now state) ⌝ }
-    ensures { λ r. ⌜ ((f : Fixed) → Did (step f (readState (now (state .entry))) (Start i)) (now (state .exit)) r) ⌝ }
+    ensures { λ r. ⌜ ((f : Fixed) → Did (step f (readState (now (state .entry))) (Start i)) (now (state .exit)) (r .response)
+        × Knows (readState (now (state .exit))) (r .at)) ⌝ }
 {
     let session = store::read_session(state);
     let running = session.suite;
     if running.0 != 0 {
-        return model::Response::plain(20);
+        return unknown(model::Response::plain(20));
     }
-    if 32 <= store::place_of(state, i) {
-        return model::Response::plain(21);
+    let k = store::place_of(state, i);
+    if 32 <= k {
+        return unknown(model::Response::plain(21));
     }
     let decisions = model::Decisions::none();
     store::write_session(
@@ -117,7 +119,10 @@ fn start(state: &mut [u8], i: model::Suite) -> model::Response
             decisions,
         },
     );
-    model::Response::plain(0)
+    Done {
+        response: model::Response::plain(0),
+        at: k,
+    }
 }
 
 fn terminate(state: &mut [u8]) -> model::Response
@@ -263,7 +268,7 @@ pub fn step(policy: &[u8], state: &mut [u8], at: usize, event: model::Event) -> 
         model::Event::Unreadable => unknown(model::Response::plain(18)),
         model::Event::Install(i, x, d) => unknown(install(policy, state, i, x, d)),
         model::Event::Remove(i) => unknown(remove(state, i)),
-        model::Event::Start(i) => unknown(start(state, i)),
+        model::Event::Start(i) => start(state, i),
         model::Event::Terminate => unknown(terminate(state)),
         model::Event::Request(p, u) => request(policy, state, at, p, u),
     }

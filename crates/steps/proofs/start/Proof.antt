@@ -1,25 +1,29 @@
+use mathlib.Core.Path.{refl}
 use borrow.Author.Needs.{needs}
+use Rattle.model.specs.State.{withSession, undecided, readState}
 use Rattle.steps.proofs.Events.{did, start-busy, start-absent, start-done}
+use Rattle.steps.proofs.Requests.{knows, unknown-yet}
 use Rattle.steps.proofs.start.Statement.{statement}
 use Rattle.steps.proofs.start.Tie as tie
 
 returns : tie.Need-returns
 returns c f =
-    let r = c .before .before .before .before in
+    let r = c .before .before .before .before .before in
     let t = r .before .before .before in
-    did (start-busy f (t .args .state .now) (r .read-session .result) (r .read-session .ensures) (t .args .i)
-    (c .before .if1 .taken))
-    (c .plain .ensures) (t .pre)
+    unknown-yet (c .unknown .ensures)
+    (did (start-busy f (t .args .state .now) (r .read-session .result) (r .read-session .ensures) (t .args .i)
+    (c .before .before .if1 .taken)) (c .before .plain .ensures) (t .pre))
 
 returns-2 : tie.Need-returns-2
 returns-2 c f =
-    let k = c .before .before in
+    let k = c .before .before .before in
     let n = k .before .before in
     let r = n .before .before .before in
     let t = r .before .before .before in
-    did (start-absent f (t .args .state .now) (t .args .i) (k .place-of .result) (k .place-of .ensures)
-    (r .read-session .result) (r .read-session .ensures) (n .if1 .left) (c .before .if2 .taken))
-    (c .plain2 .ensures) (t .pre)
+    unknown-yet (c .unknown2 .ensures)
+    (did (start-absent f (t .args .state .now) (t .args .i) (k .place-of .result) (k .place-of .ensures)
+    (r .read-session .result) (r .read-session .ensures) (n .if1 .left) (c .before .before .if2 .taken))
+    (c .before .plain2 .ensures) (t .pre))
 
 returns-3 : tie.Need-returns-3
 returns-3 c f =
@@ -29,12 +33,15 @@ returns-3 c f =
     let n = k .before .before in
     let r = n .before .before .before in
     let t = r .before .before .before in
-    did (start-done f (t .args .state .now) (t .args .i) (k .place-of .result) (k .place-of .ensures)
-    (r .read-session .result) (r .read-session .ensures) (n .if1 .left) (d .before .if2 .left))
-    (c .plain3 .ensures) (rw (← d .none .ensures) (w .write-session .ensures))
+    let after = withSession (record { suite = t .args .i; decisions = undecided }) (readState (t .args .state .now)) in (
+      did (start-done f (t .args .state .now) (t .args .i) (k .place-of .result) (k .place-of .ensures)
+          (r .read-session .result) (r .read-session .ensures) (n .if1 .left) (d .before .if2 .left))
+          (c .plain3 .ensures) (rw (← d .none .ensures) (w .write-session .ensures)),
+      knows after (k .place-of .ensures) refl (w .write-session .ensures),
+    )
 
 pub start-spec : {M : Type 1} → statement M
 start-spec =
-    tie.close (tie.spec (λ c κs. search needs) (λ c κs. search needs) (λ c. search needs) returns (λ c κs. search needs)
-    (λ c κs. search needs) (λ c. search needs) returns-2 (λ c κs. search needs) (λ c κs. search needs) (λ c κs. search needs)
-    (λ c. search needs) returns-3)
+    tie.close (tie.spec (λ c κs. search needs) (λ c κs. search needs) (λ c κs. search needs) (λ c. search needs) returns
+    (λ c κs. search needs) (λ c κs. search needs) (λ c κs. search needs) (λ c. search needs) returns-2
+    (λ c κs. search needs) (λ c κs. search needs) (λ c κs. search needs) (λ c. search needs) returns-3)

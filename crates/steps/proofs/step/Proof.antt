@@ -25,14 +25,12 @@ returns-3 c =
     rw (d .before .before .before .event2 .given .1) (unknown-yet (c .unknown3 .ensures) (d .remove .ensures _))
 
 returns-4 : tie.Need-returns-4
-returns-4 c =
-    let d = c .before .before .before in
-    rw (d .before .before .before .event3 .given .1) (unknown-yet (c .unknown4 .ensures) (d .start .ensures _))
+returns-4 c = rw (c .before .before .before .before .before .event3 .given .1) (c .before .before .start .ensures _)
 
 returns-5 : tie.Need-returns-5
 returns-5 c =
     let d = c .before .before .before in
-    rw (d .before .before .enum-told2 .given .1) (unknown-yet (c .unknown5 .ensures) (d .terminate .ensures _))
+    rw (d .before .before .enum-told2 .given .1) (unknown-yet (c .unknown4 .ensures) (d .terminate .ensures _))
 
 returns-6 : tie.Need-returns-6
 returns-6 c = rw (c .before .before .before .before .before .event4 .given .1) (c .before .before .request .ensures)
@@ -48,6 +46,6 @@ step-spec =
     tie.close
     (tie.spec (λ c. search needs) (λ c κs. search needs) (λ c κs. search needs) (λ c. search needs) (λ c κs. search needs)
     (λ c κs. search needs) (λ c. search needs) (λ c κs. search needs) (λ c κs. search needs) (λ c. search needs)
-    (λ c κs. search needs) (λ c κs. search needs) (λ c. search needs) (λ c κs. search needs) (λ c κs. search needs)
-    (λ c. search needs) named returns (λ c. search needs) returns-2 (λ c. search needs) returns-3
-    (λ c. search needs) returns-4 (λ c. search needs) returns-5 (λ c. search needs) returns-6)
+    (λ c κs. search needs) (λ c. search needs) (λ c κs. search needs) (λ c κs. search needs) (λ c. search needs) named
+    returns (λ c. search needs) returns-2 (λ c. search needs) returns-3 (λ c. search needs) returns-4 (λ c. search needs) returns-5
+    (λ c. search needs) returns-6)

@@ -1,0 +1,12 @@
+use mathlib.Core.Path.{ap, _∙_}
+use borrow.Author.Needs.{needs}
+use Rattle.model.specs.Calls.{readAnswer}
+use Rattle.export.specs.Packed.{packed}
+use Rattle.export.proofs.tm_read_event.Statement.{statement}
+use Rattle.export.proofs.tm_read_event.Tie as tie
+
+returns : tie.Need-returns
+returns c = c .read-number .ensures ∙ ap (λ e. packed (readAnswer e)) (c .before .read-event .ensures)
+
+pub tm-read-event-spec : {M : Type 1} → statement M
+tm-read-event-spec = tie.close (tie.spec (λ c κs. search needs) (λ c κs. search needs) returns)
