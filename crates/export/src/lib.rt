@@ -17,7 +17,8 @@ fn pack(r: model::Response) -> u32
 pub extern "C" fn tm_new_state(state: &mut [u8]) -> u32
     ensures { λ n. ⌜ sent n (now (state .exit)) ≡ packedCall (newCall (now (state .entry))) ⌝ }
 {
-    pack(monitor::new_state(state))
+    let response = monitor::new_state(state);
+    pack(response)
 }
 
 #[no_mangle]
