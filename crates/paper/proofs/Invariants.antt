@@ -17,7 +17,7 @@ use Rattle.paper.specs.Published.{Step, PSession, psession-start, psessi
 use Rattle.paper.proofs.Changes.{entered, enteredFor, grows, cleared, only, but-granted, but-revoked, Installed, Current}
 use Rattle.paper.proofs.Changes.{running, not-running, answering, at}
 
-widest : (m : Mode) → blanket ≤m m → m ≡ blanket
+pub widest : (m : Mode) → blanket ≤m m → m ≡ blanket
 widest oneshot h = absurd (omega arith)
 widest session h = absurd (omega arith)
 widest blanket h = refl

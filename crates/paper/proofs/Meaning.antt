@@ -1,6 +1,5 @@
 -- A state that the monitor calls valid is valid in the papers' words: 000, 3.2, and 004, 2.3.1. Assumes nothing.
 use Prim.Native.Nat.{ℕ}
-use native.Mathlib.Omega.{arith}
 use mathlib.Core.Path.{_≡_, refl, sym, ap, _∙_, subst}
 use mathlib.Core.Logic.{_⊎_, inl, inr}
 use mathlib.Core.List.{[]}
@@ -25,6 +24,7 @@ use Rattle.model.proofs.Kept.{holds}
 use Rattle.paper.specs.Published
 use Rattle.paper.specs.Published.{SessionInfo, Declared, Asked, Valid, Coherent, _≀_, _≤m_}
 use Rattle.paper.specs.Refinement.{In, policyOf, descriptorOf, suiteOf, infoOf, sessionOf, Installed, stateOf}
+use Rattle.paper.proofs.Invariants.{widest}
 use Rattle.paper.proofs.Cells.{admitted, offers}
 use Rattle.paper.proofs.Decided.{out, declares, kept-fit, now-fit, now-beside}
 use Rattle.paper.proofs.Refined.{the-session}
@@ -34,11 +34,6 @@ use Rattle.paper.proofs.Simulation.{refined}
 -- a cell that takes a blanket consent
 blanket-mode : (c : ℕ) → admits c blanket ≡ true → highest c ≡ UpTo blanket
 blanket-mode c k = let (m, e, le) = admitted c blanket k in e ∙ ap UpTo (widest m le)
-  where
-    widest : (m : Mode) → _≤m_ blanket m → m ≡ blanket
-    widest oneshot le = absurd (omega arith)
-    widest session le = absurd (omega arith)
-    widest blanket le = refl
 
 -- a slot that is right in itself
 sound-offers : (f : Fixed) (x : Slot) → same (x .suite) noSuite ≡ false → slotSound f x ≡ true

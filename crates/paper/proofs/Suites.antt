@@ -20,14 +20,6 @@ use Rattle.model.proofs.Kept.{slot-undecided}
 use Rattle.paper.specs.Published
 use Rattle.paper.specs.Refinement.{In, suiteOf, Installed, Agrees}
 
--- what is found of a number that no slot has
-pub find-absent : (i : Suite) (l : List Slot) → carries i l ≡ false → find i l ≡ free
-unfolding carries find
-find-absent i [] h = refl
-find-absent i (x ∷ xs) h =
-    let (n, m) = neither (same (x .suite) i) (carries i xs) h in
-    rw n (find-absent i xs m)
-
 -- the decisions found are right
 pub find-decided : (f : Fixed) (i : Suite) (lower : List Suite) (l : List Slot) → slotsValid f lower l ≡ true
     → slotDecided f (find i l) ≡ true
