@@ -7,9 +7,9 @@ use native.Mathlib.Omega.{arith}
 use lib.Dec.{eqb, leb, ltb}
 use lib.ListN.{length}
 use borrow.Author.Tests.{lt-ltb, le-leb, lt-leb, ne-eqb, ltb-true, ltb-false}
-use Rattle.model.specs.declared.Suite.{Suite}
+use Rattle.device.specs.declared.Suite.{Suite}
 use Rattle.model.specs.State.{place, readState, recordSize, stateSize}
-use Rattle.model.specs.Answers.{refused, DONE, NOT-INSTALLED}
+use Rattle.device.specs.Answers.{refused, DONE, NOT-INSTALLED}
 use Rattle.model.specs.Calls.{checkCall, findCall, partCall}
 use Rattle.model.proofs.Calls.{passed, found}
 use Rattle.store.proofs.Places.{carries-below}

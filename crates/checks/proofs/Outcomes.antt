@@ -8,17 +8,17 @@ use native.Mathlib.Omega.{arith}
 use lib.Dec.{eqb}
 use lib.ListN.{length, length-take, length-drop}
 use denote.Ref.{RefT}
-use Rattle.model.specs.declared.Suite.{Suite}
-use Rattle.model.specs.declared.Response.{Response}
-use Rattle.model.specs.Policy.{policyRight}
+use Rattle.device.specs.declared.Suite.{Suite}
+use Rattle.device.specs.declared.Response.{Response}
+use Rattle.model.specs.Policy.{policyValid}
 use Rattle.model.specs.State.{place, readState}
-use Rattle.model.specs.Answers.{refused}
+use Rattle.device.specs.Answers.{refused}
 use Rattle.model.specs.Calls.{Part, leaving, newCall, checkCall, findCall, partCall}
 use Rattle.model.proofs.Calls.{one-outcome, new-leaves}
 use Rattle.checks.specs.Parts.{IsPart}
 use Rattle.checks.proofs.Finding.{part-none, part-slot, found-place}
 
-pub policy-unique : (policy : List ℕ) {r r' : Bool} → r ≡ policyRight policy → r' ≡ policyRight policy → r ≡ r'
+pub policy-unique : (policy : List ℕ) {r r' : Bool} → r ≡ policyValid policy → r' ≡ policyValid policy → r ≡ r'
 policy-unique policy p q = p ∙ sym q
 
 module _ (entry : List ℕ) {exit : List ℕ} {r : Response} (made : leaving exit r ≡ newCall entry) where

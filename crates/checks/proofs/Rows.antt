@@ -14,9 +14,11 @@ use Rattle.words.specs.Search.{allFrom}
 use Rattle.words.specs.Sets.{bit, member}
 use Rattle.words.proofs.Search.{allFrom-at}
 use Rattle.words.proofs.Sets.{bit-member, member-or, member-and, extensional}
-use Rattle.model.specs.declared.Domain.{Domain}
-use Rattle.model.specs.declared.Mode.the-variants.{Oneshot, Session, Blanket}
-use Rattle.model.specs.Policy.{Fixed, fixedBy, policyRight, highest, offered, admits}
+use Rattle.device.specs.declared.Domain.{Domain}
+use Rattle.device.specs.declared.Mode.the-variants.{Oneshot, Session, Blanket}
+use Rattle.model.specs.Policy.{Fixed, fixedBy, policyValid}
+use Rattle.device.specs.Device.{modeOf}
+use Rattle.device.specs.Cells.{highest, offered, admits}
 use Rattle.model.proofs.Tests.{both}
 use Rattle.checks.specs.declared.Row.{Row}
 use Rattle.words.specs.Numbers.{leAt}
@@ -113,8 +115,8 @@ by-product w =
     rw (e, f) (of-bits (w % 2) (w / 256 % 2) (w / 256 / 256 % 2) (w / 256 / 256 / 256 % 2)
     (omega arith) (omega arith) (omega arith) (omega arith))
 
-pub right-size : (b : List ℕ) → policyRight b ≡ true → length b ≡ 512
-unfolding policyRight
+pub right-size : (b : List ℕ) → policyValid b ≡ true → length b ≡ 512
+unfolding policyValid
 right-size b right = eqb-true _ 512 (both (eqb (length b) 512) _ right .0)
 
 -- ---- the four classes, by those bits
@@ -125,7 +127,7 @@ Classes c =
     × (member c 1 ≡ admits c Session) × ((member c 0 && member c 1) ≡ admits c Blanket)
 
 classes : (c : ℕ) → c ≤ 4 → Classes c
-unfolding member bit highest
+unfolding member bit highest modeOf
 classes zero l = (refl, refl, refl, refl)
 classes (suc zero) l = (refl, refl, refl, refl)
 classes (suc (suc zero)) l = (refl, refl, refl, refl)
@@ -133,9 +135,9 @@ classes (suc (suc (suc zero))) l = (refl, refl, refl, refl)
 classes (suc (suc (suc (suc zero)))) l = (refl, refl, refl, refl)
 classes (suc (suc (suc (suc (suc c))))) l = absurd (omega arith)
 
-module _ (b : List ℕ) (right : policyRight b ≡ true) (d : ℕ) (l : d < 8) where
+module _ (b : List ℕ) (right : policyValid b ≡ true) (d : ℕ) (l : d < 8) where
   cell-small : (n : ℕ) → n < 64 → getD b (64 * d + n) 0 ≤ 4
-  unfolding policyRight
+  unfolding policyValid
   cell-small n m =
       let cells = both (eqb (length b) 512) (allFrom (λ i. leb (getD b i 0) 4) 512 0) right .1 in
       leb-true _ 4 (allFrom-at (λ i. leb (getD b i 0) 4) 512 0 cells (64 * d + n) (omega arith) (omega arith))

@@ -10,8 +10,8 @@ use lib.Dec.{eqb}
 use borrow.Author.Tests.{eqb-true, eq-eqb, not-true}
 use Rattle.words.specs.Sets.{bit, member}
 use Rattle.words.proofs.Sets.{bit-zero, bit-suc, member-none, member-and, extensional}
-use Rattle.model.specs.declared.Permission.{Permission}
-use Rattle.model.specs.Device.{has, every}
+use Rattle.device.specs.declared.Permission.{Permission}
+use Rattle.device.specs.Device.{has, every}
 use Rattle.model.specs.Valid.{_⇒_}
 use Rattle.model.proofs.Tests.{both, every-all, every-at}
 use Rattle.checks.specs.Rows.{setFrom, those}

@@ -3,12 +3,13 @@ use Prim.Native.Nat.{ℕ, zero, suc, _+_, _*_, _/_, _%_}
 use mathlib.Core.Path.{_≡_}
 use mathlib.Core.Bool.{Bool, true, cond}
 use mathlib.Core.List.{List, [], _∷_}
-use Rattle.model.specs.declared.Permission.{Permission}
-use Rattle.model.specs.declared.Domain.{Domain}
-use Rattle.model.specs.declared.Mode.{Mode}
-use Rattle.model.specs.declared.Mode.the-variants.{Oneshot, Session, Blanket}
-use Rattle.model.specs.Device.{isDomain}
-use Rattle.model.specs.Policy.{Fixed, offered, admits}
+use Rattle.device.specs.declared.Permission.{Permission}
+use Rattle.device.specs.declared.Domain.{Domain}
+use Rattle.device.specs.declared.Mode.{Mode}
+use Rattle.device.specs.declared.Mode.the-variants.{Oneshot, Session, Blanket}
+use Rattle.device.specs.Device.{isDomain}
+use Rattle.model.specs.Policy.{Fixed}
+use Rattle.device.specs.Cells.{offered, admits}
 use Rattle.checks.specs.declared.Row.{Row}
 
 -- of the n numbers from i those that pass f, as a set: i itself is the bit worth 1

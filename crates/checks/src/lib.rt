@@ -4,17 +4,21 @@ ghost use mathlib.Core.Bool.{true, not, _&&_};
 ghost use mathlib.Core.List.{[]};
 ghost use Prim.Native.Nat.{suc, _+_, _*_, _<_};
 ghost use lib.ListN.{length, replicate};
-ghost use Rattle.model.specs.declared.Mode.{Mode};
-ghost use Rattle.model.specs.declared.Mode.the-variants.{Oneshot};
-ghost use Rattle.model.specs.Device.{slotCount, has, every};
-ghost use Rattle.model.specs.Policy.{Fixed, fixedBy, policyRight};
+ghost use Rattle.device.specs.declared.Mode.{Mode};
+ghost use Rattle.device.specs.declared.Mode.the-variants.{Oneshot};
+ghost use Rattle.device.specs.Device.{domainCount, slotCount, has, every};
+ghost use Rattle.model.specs.Policy.{Fixed, fixedBy, policyValid};
 ghost use Rattle.model.specs.State.{recordSize, stateSize, slotAt, sessionZeros, readState};
-ghost use Rattle.model.specs.Valid.{_⇒_, clear, allRight, fits, blank, slotSound, ownNumber, slotDecided};
-ghost use Rattle.model.specs.Valid.{sessionDecided, sessionValid, slotsRight, stateRight};
+ghost use Rattle.model.specs.Valid.{_⇒_, clear, allFit, fits, blank, slotSound, ownNumber, slotDecided};
+ghost use Rattle.model.specs.Valid.{sessionDecided, sessionValid, stateValid};
 ghost use Rattle.model.specs.Calls.{leaving, newCall, checkCall, findCall, partCall};
 ghost use Rattle.checks.specs.Rows.{lowBits, admitting, rowOf, rowsOf, RowIs};
-ghost use Rattle.checks.specs.Walk.{lowerOf, slotRight};
+ghost use Rattle.checks.specs.Walk.{lowerOf, slotRecordValid, slotRecordsValid};
 ghost use Rattle.checks.specs.Parts.{IsPart};
+
+const DOMAIN_COUNT: usize = device::Domain::COUNT as usize;
+
+pub const POLICY_SIZE: usize = device::ROW_SIZE * DOMAIN_COUNT;
 
 // What a domain says of the permissions: those that it offers, those that it has the user asked about, and those of
 // them that may be granted for a session, and for good.
@@ -27,18 +31,18 @@ struct Row {
 
 // The policy has its size, and no cell is above 4.
 pub fn check_policy(policy: &[u8]) -> bool
-    ensures { λ r. ⌜ r ≡ policyRight (now (policy .entry)) ⌝ }
+    ensures { λ r. ⌜ r ≡ policyValid (now (policy .entry)) ⌝ }
 {
-    if policy.len() != 512 {
+    if policy.len() != POLICY_SIZE {
         return false;
     }
-    let mut right = true;
+    let mut valid = true;
     let mut i: usize = 0;
-    while i < 512 {
-        right = right & (policy[i] <= 4);
+    while i < POLICY_SIZE {
+        valid = valid & (policy[i] <= device::ALLOWING);
         i += 1;
     }
-    right
+    valid
 }
 
 // ---- sets, a word at a time
@@ -57,27 +61,39 @@ fn apart(a: u64, b: u64) -> bool
 
 // ---- the rows of the policy
 
-// The lowest bits of four cells, the first one's lowest. The product has bit 8i of them at 21 + i, and no two of its terms meet.
+// What the bytes 1, 2 and 3 of a word are worth.
+const BYTE_1: u32 = 256;
+
+const BYTE_2: u32 = 256 * BYTE_1;
+
+const BYTE_3: u32 = 256 * BYTE_2;
+
+// A product with `GATHER` has the bit worth 1 of byte i at `GATHERED` times 2 to the power i, and no two of its terms meet.
+const GATHERED: u64 = 2097152;
+
+const GATHER: u64 = 1 + 128 + 128 * 128 + GATHERED;
+
+// The lowest bits of four cells, the first one's lowest.
 fn low_bits(cells: u32) -> u64
     ensures { λ r. ⌜ r ≡ lowBits 4 cells ⌝ }
 {
     let bits = cells % 2
-        + 256 * (cells / 256 % 2)
-        + 65536 * (cells / 65536 % 2)
-        + 16777216 * (cells / 16777216 % 2);
-    (bits as u64) * 2113665 / 2097152 % 16
+        + BYTE_1 * (cells / BYTE_1 % 2)
+        + BYTE_2 * (cells / BYTE_2 % 2)
+        + BYTE_3 * (cells / BYTE_3 % 2);
+    (bits as u64) * GATHER / GATHERED % 16
 }
 
 // From the three bits of its cells: 1, 2 and 3 have the user asked, and 4 is the one that has the bit worth 4. Four cells at a time.
 fn row_of(policy: &[u8], domain: usize) -> Row
-    requires { ⌜ (policyRight (now policy) ≡ true) × (domain < 8) ⌝ }
+    requires { ⌜ (policyValid (now policy) ≡ true) × (domain < domainCount) ⌝ }
     ensures { λ r. ⌜ r ≡ rowOf (fixedBy (now (policy .entry))) (record { 0 = domain }) ⌝ }
 {
-    let start = 64 * domain;
+    let start = device::ROW_SIZE * domain;
     let mut ones: u64 = 0;
     let mut twos: u64 = 0;
     let mut fours: u64 = 0;
-    let mut p: usize = 64;
+    let mut p: usize = device::ROW_SIZE;
     while 0 < p {
         p -= 4;
         let cells = words::read32(policy, start + p);
@@ -93,8 +109,8 @@ fn row_of(policy: &[u8], domain: usize) -> Row
     }
 }
 
-fn rows_of(policy: &[u8]) -> [Row; 8]
-    requires { ⌜ policyRight (now policy) ≡ true ⌝ }
+fn rows_of(policy: &[u8]) -> [Row; DOMAIN_COUNT]
+    requires { ⌜ policyValid (now policy) ≡ true ⌝ }
     ensures { λ r. ⌜ r ≡ rowsOf (fixedBy (now (policy .entry))) ⌝ }
 {
     [
@@ -111,13 +127,13 @@ fn rows_of(policy: &[u8]) -> [Row; 8]
 
 // ---- a slot
 
-fn clear(d: model::Decisions) -> bool
+fn clear(d: device::Decisions) -> bool
     ensures { λ r. ⌜ r ≡ clear d ⌝ }
 {
     (d.granted == 0) & (d.revoked == 0)
 }
 
-fn blank(x: model::Slot) -> bool
+fn blank(x: device::Slot) -> bool
     ensures { λ r. ⌜ r ≡ blank x ⌝ }
 {
     let domain = x.domain;
@@ -126,7 +142,7 @@ fn blank(x: model::Slot) -> bool
         & ((descriptor.required == 0) & ((descriptor.optional == 0) & clear(x.decisions)))
 }
 
-fn slot_sound(x: model::Slot, row: Row) -> bool
+fn slot_sound(x: device::Slot, row: Row) -> bool
     ensures { λ r. ⌜ ((f : Fixed) → RowIs f (x .domain) row → r ≡ slotSound f x) ⌝ }
 {
     let suite = x.suite;
@@ -135,15 +151,15 @@ fn slot_sound(x: model::Slot, row: Row) -> bool
     if suite.0 == 0 {
         return blank(x);
     }
-    if 8 <= domain.0 {
+    if device::Domain::COUNT <= domain.0 {
         return false;
     }
     within(descriptor.required, row.offered)
 }
 
 // No lower slot than k has the number.
-fn own_number(state: &[u8], k: usize, suite: model::Suite) -> bool
-    requires { ⌜ (length (now state) ≡ stateSize) × (k < 32) ⌝ }
+fn own_number(state: &[u8], k: usize, suite: device::Suite) -> bool
+    requires { ⌜ (length (now state) ≡ stateSize) × (k < slotCount) ⌝ }
     ensures { λ r. ⌜ r ≡ ownNumber (lowerOf (now (state .entry)) k) suite ⌝ }
 {
     let n = suite.0;
@@ -154,16 +170,16 @@ fn own_number(state: &[u8], k: usize, suite: model::Suite) -> bool
     let mut j = k;
     while 0 < j {
         j -= 1;
-        seen = seen | (words::read16(state, 40 + 40 * j) == n);
+        seen = seen | (words::read16(state, store::RECORD_SIZE + store::RECORD_SIZE * j) == n);
     }
     !seen
 }
 
 // The decisions d of x's suite: grants are declared and of the sort that may be granted, revocations declared and of
 // the sort that is asked, and none is both.
-fn fits(d: model::Decisions, x: model::Slot, grantable: u64, asked: u64) -> bool
+fn fits(d: device::Decisions, x: device::Slot, grantable: u64, asked: u64) -> bool
     ensures { λ r. ⌜ ((f : Fixed) (m : Mode) → grantable ≡ admitting f (x .domain) m
-        → asked ≡ admitting f (x .domain) Oneshot → r ≡ allRight d (fits f x m d)) ⌝ }
+        → asked ≡ admitting f (x .domain) Oneshot → r ≡ allFit d (fits f x m d)) ⌝ }
 {
     let descriptor = x.descriptor;
     let declared = descriptor.required | descriptor.optional;
@@ -171,18 +187,18 @@ fn fits(d: model::Decisions, x: model::Slot, grantable: u64, asked: u64) -> bool
         & (within(d.revoked, declared & asked) & apart(d.granted, d.revoked))
 }
 
-fn slot_decided(x: model::Slot, row: Row) -> bool
+fn slot_decided(x: device::Slot, row: Row) -> bool
     ensures { λ r. ⌜ ((f : Fixed) → row ≡ rowOf f (x .domain) → r ≡ slotDecided f x) ⌝ }
 {
     fits(x.decisions, x, row.blanket, row.asked)
 }
 
 // Slot k, which says x: wrong in itself, a number seen before, a decision wrong.
-fn slot_right(state: &[u8], k: usize, x: model::Slot, row: Row) -> bool
-    requires { ⌜ (length (now state) ≡ stateSize) × (k < 32) × (x ≡ slotAt (now state) (recordSize + recordSize * k)) ⌝ }
-    ensures { λ r. ⌜ ((f : Fixed) → RowIs f (x .domain) row → r ≡ slotRight f (now (state .entry)) k) ⌝ }
+fn slot_valid(state: &[u8], k: usize, x: device::Slot, row: Row) -> bool
+    requires { ⌜ (length (now state) ≡ stateSize) × (k < slotCount) × (x ≡ slotAt (now state) (recordSize + recordSize * k)) ⌝ }
+    ensures { λ r. ⌜ ((f : Fixed) → RowIs f (x .domain) row → r ≡ slotRecordValid f (now (state .entry)) k) ⌝ }
 {
-    let zeros = store::slot_zeros(state, 40 + 40 * k);
+    let zeros = store::slot_zeros(state, store::RECORD_SIZE + store::RECORD_SIZE * k);
     if !zeros {
         return false;
     }
@@ -198,17 +214,17 @@ fn slot_right(state: &[u8], k: usize, x: model::Slot, row: Row) -> bool
 }
 
 // A byte that is no domain takes some other row, and its slot is wrong in itself: no byte drives the index out of range.
-fn slots_right(rows: [Row; 8], state: &[u8]) -> bool
+fn slots_valid(rows: [Row; DOMAIN_COUNT], state: &[u8]) -> bool
     requires { ⌜ length (now state) ≡ stateSize ⌝ }
-    ensures { λ r. ⌜ ((f : Fixed) → rows ≡ rowsOf f → r ≡ slotsRight f (now (state .entry)) [] slotCount recordSize) ⌝ }
+    ensures { λ r. ⌜ ((f : Fixed) → rows ≡ rowsOf f → r ≡ slotRecordsValid f (now (state .entry)) [] slotCount recordSize) ⌝ }
 {
     let mut k: usize = 0;
-    while k < 32 {
+    while k < store::SLOT_COUNT {
         let x = store::read_slot(state, k);
         let domain = x.domain;
-        let d = domain.0 as usize % 8;
-        let right = slot_right(state, k, x, rows[d]);
-        if !right {
+        let d = domain.0 as usize % DOMAIN_COUNT;
+        let valid = slot_valid(state, k, x, rows[d]);
+        if !valid {
             return false;
         }
         k += 1;
@@ -218,7 +234,7 @@ fn slots_right(rows: [Row; 8], state: &[u8]) -> bool
 
 // ---- the session
 
-fn session_decided(r: model::Session, x: model::Slot, row: Row) -> bool
+fn session_decided(r: device::Session, x: device::Slot, row: Row) -> bool
     ensures { λ t. ⌜ ((f : Fixed) → row ≡ rowOf f (x .domain) → t ≡ sessionDecided f r x) ⌝ }
 {
     let held = r.decisions;
@@ -227,10 +243,10 @@ fn session_decided(r: model::Session, x: model::Slot, row: Row) -> bool
         & apart(held.granted | held.revoked, kept.granted | kept.revoked)
 }
 
-// Record 0, behind right slots: wrong in itself, a decision wrong.
-fn session_right(rows: [Row; 8], state: &[u8]) -> bool
+// Record 0, behind valid slots: wrong in itself, a decision wrong.
+fn session_valid(rows: [Row; DOMAIN_COUNT], state: &[u8]) -> bool
     requires { ⌜ length (now state) ≡ stateSize ⌝ }
-    ensures { λ t. ⌜ ((f : Fixed) → rows ≡ rowsOf f → slotsRight f (now (state .entry)) [] slotCount recordSize ≡ true
+    ensures { λ t. ⌜ ((f : Fixed) → rows ≡ rowsOf f → slotRecordsValid f (now (state .entry)) [] slotCount recordSize ≡ true
         → t ≡ (sessionZeros (now (state .entry)) && sessionValid f (readState (now (state .entry))))) ⌝ }
 {
     let zeros = store::session_zeros(state);
@@ -243,28 +259,28 @@ fn session_right(rows: [Row; 8], state: &[u8]) -> bool
         return clear(r.decisions);
     }
     let k = store::place_of(state, suite);
-    if 32 <= k {
+    if store::SLOT_COUNT <= k {
         return false;
     }
     let x = store::read_slot(state, k);
     let domain = x.domain;
-    let d = domain.0 as usize % 8;
+    let d = domain.0 as usize % DOMAIN_COUNT;
     session_decided(r, x, rows[d])
 }
 
 fn check_state(policy: &[u8], state: &[u8]) -> bool
-    requires { ⌜ policyRight (now policy) ≡ true ⌝ }
-    ensures { λ r. ⌜ r ≡ stateRight (fixedBy (now (policy .entry))) (now (state .entry)) ⌝ }
+    requires { ⌜ policyValid (now policy) ≡ true ⌝ }
+    ensures { λ r. ⌜ r ≡ stateValid (fixedBy (now (policy .entry))) (now (state .entry)) ⌝ }
 {
-    if state.len() != 1320 {
+    if state.len() != store::STATE_SIZE {
         return false;
     }
     let rows = rows_of(policy);
-    let right = slots_right(rows, state);
-    if !right {
+    let valid = slots_valid(rows, state);
+    if !valid {
         return false;
     }
-    session_right(rows, state)
+    session_valid(rows, state)
 }
 
 // ---- the calls
@@ -280,60 +296,62 @@ fn wipe(bytes: &mut [u8])
 }
 
 // A new state, all zero; 17 for another size.
-pub fn new_state(state: &mut [u8]) -> model::Response
+pub fn new_state(state: &mut [u8]) -> device::Response
     ensures { λ r. ⌜ leaving (now (state .exit)) r ≡ newCall (now (state .entry)) ⌝ }
 {
-    if state.len() == 1320 {
+    if state.len() == store::STATE_SIZE {
         wipe(state);
-        return model::Response::plain(0);
+        return device::Response::done();
     }
-    model::Response::plain(17)
+    device::Response::bad_state()
 }
 
 // The policy and the state: 16, 17.
-pub fn check(policy: &[u8], state: &[u8]) -> model::Response
+pub fn check(policy: &[u8], state: &[u8]) -> device::Response
     ensures { λ r. ⌜ r ≡ checkCall (now (policy .entry)) (now (state .entry)) ⌝ }
 {
-    let right = check_policy(policy);
-    if !right {
-        return model::Response::plain(16);
-    }
-    let valid = check_state(policy, state);
+    let valid = check_policy(policy);
     if !valid {
-        return model::Response::plain(17);
+        return device::Response::bad_policy();
     }
-    model::Response::plain(0)
+    let holds = check_state(policy, state);
+    if !holds {
+        return device::Response::bad_state();
+    }
+    device::Response::done()
 }
 
 // Whether the suite is installed: 16, 17, then 21; suite 0 never is.
-pub fn find(policy: &[u8], state: &[u8], suite: model::Suite) -> model::Response
+pub fn find(policy: &[u8], state: &[u8], suite: device::Suite) -> device::Response
     ensures { λ r. ⌜ r ≡ findCall (now (policy .entry)) (now (state .entry)) suite ⌝ }
 {
     let checked = check(policy, state);
-    if 16 <= checked.number {
+    let refused = checked.refused();
+    if refused {
         return checked;
     }
     let k = store::place_of(state, suite);
-    if (suite.0 == 0) | (32 <= k) {
-        return model::Response::plain(21);
+    if (suite.0 == 0) | (store::SLOT_COUNT <= k) {
+        return device::Response::not_installed();
     }
-    model::Response::plain(0)
+    device::Response::done()
 }
 
 fn slot_part(state: &[u8], k: usize) -> &[u8]
-    requires { ⌜ (length (now state) ≡ stateSize) × (k < 32) ⌝ }
+    requires { ⌜ (length (now state) ≡ stateSize) × (k < slotCount) ⌝ }
     ensures { λ r. ⌜ IsPart (state .entry) (record { from = recordSize * suc k; size = recordSize }) r ⌝ }
 {
-    let a = 40 + 40 * k;
-    &state[a..a + 40]
+    let a = store::RECORD_SIZE + store::RECORD_SIZE * k;
+    &state[a..a + store::RECORD_SIZE]
 }
 
 // The suite's 40 bytes, where they lie in the state; none of them exactly when `find` refuses.
-pub fn suite_record<'a>(policy: &[u8], state: &'a [u8], suite: model::Suite) -> &'a [u8]
+pub fn suite_record<'a>(policy: &[u8], state: &'a [u8], suite: device::Suite) -> &'a [u8]
     ensures { λ r. ⌜ IsPart (state .entry) (partCall (now (policy .entry)) (now (state .entry)) suite) r ⌝ }
 {
     let found = find(policy, state, suite);
-    if 16 <= found.number {
+    let refused = found.refused();
+    if refused {
         return &state[..0];
     }
     slot_part(state, store::place_of(state, suite))

@@ -82,7 +82,7 @@ fn edge(good: [u8; 24], at: usize, low: u8, high: u8)
 }
 
 // The number of a write into 24 bytes, and of one into 23.
-fn written(event: model::Event) {
+fn written(event: device::Event) {
     let mut whole = [7u8; 24];
     print(events::write_event(event, &mut whole).number);
     let mut short = [7u8; 23];
@@ -133,25 +133,25 @@ fn reads() {
 }
 
 fn writes() {
-    let both = model::Descriptor {
+    let both = device::Descriptor {
         required: 18446744073709551615,
         optional: 1,
     };
-    let no = model::UserAnswer::Deny(model::Mode::Blanket);
+    let no = device::UserAnswer::Deny(device::Mode::Blanket);
     line(b"an install of suite 65535 in domain 7, 0 in 7, 1 in 8, into 24 and 23 bytes:");
-    written(model::Event::Install(model::Suite(65535), both, model::Domain(7)));
-    written(model::Event::Install(model::Suite(0), both, model::Domain(7)));
-    written(model::Event::Install(model::Suite(1), both, model::Domain(8)));
+    written(device::Event::Install(device::Suite(65535), both, device::Domain(7)));
+    written(device::Event::Install(device::Suite(0), both, device::Domain(7)));
+    written(device::Event::Install(device::Suite(1), both, device::Domain(8)));
     line(b"a remove of 65535, of 0, a start of 1, of 0, into 24 and 23 bytes:");
-    written(model::Event::Remove(model::Suite(65535)));
-    written(model::Event::Remove(model::Suite(0)));
-    written(model::Event::Start(model::Suite(1)));
-    written(model::Event::Start(model::Suite(0)));
+    written(device::Event::Remove(device::Suite(65535)));
+    written(device::Event::Remove(device::Suite(0)));
+    written(device::Event::Start(device::Suite(1)));
+    written(device::Event::Start(device::Suite(0)));
     line(b"a request of 63, of 64, a terminate, an unreadable event, into 24 and 23 bytes:");
-    written(model::Event::Request(model::Permission(63), no));
-    written(model::Event::Request(model::Permission(64), no));
-    written(model::Event::Terminate);
-    written(model::Event::Unreadable);
+    written(device::Event::Request(device::Permission(63), no));
+    written(device::Event::Request(device::Permission(64), no));
+    written(device::Event::Terminate);
+    written(device::Event::Unreadable);
 }
 
 fn main() {

@@ -12,93 +12,85 @@ use lib.Dec.{eqb, lit<}
 use borrow.Author.Tests.{eq-eqb, ltb-true}
 use Rattle.words.specs.Numbers.{leAt, bytesOf}
 use Rattle.words.proofs.Numbers.{eqb-split}
-use Rattle.model.specs.declared.Event.{Event}
-use Rattle.model.specs.declared.Event.the-variants.{Unreadable, Install, Remove, Start, Terminate, Request}
-use Rattle.model.specs.Device.{isSuite, isDomain, isSet}
-use Rattle.model.specs.Events.{answerNo, layout, writeEvent, carried, eventIn, equal, readEvent}
+use Rattle.device.specs.declared.Fields.{Fields}
+use Rattle.device.specs.declared.Event.{Event}
+use Rattle.device.specs.declared.Event.the-variants.{Unreadable, Install, Remove, Start, Terminate, Request}
+use Rattle.device.specs.Device.{isSuite, isDomain, isSet}
+use Rattle.device.specs.UserAnswers.{answerNo}
+use Rattle.model.specs.Events.{eventSize, fieldsAt, fieldBytes, numbers, fieldsOf, eventOf, carried, writeEvent, eventIn, sameBytes}
+use Rattle.model.specs.Events.{readEvent}
 use Rattle.model.proofs.Tests.{both, all-three}
-use Rattle.model.proofs.RoundTrip.{number, same-equal}
-use Rattle.events.specs.declared.Fields.{Fields}
-use Rattle.events.specs.Fields.{fields, fieldsAt, fieldBytes, fieldsOf, eventOf, sameFields}
+use Rattle.model.proofs.RoundTrip.{number, same-bytes}
+use Rattle.events.specs.Fields.{sameFields}
 
-equal-end : equal [] [] ≡ true
-unfolding equal
-equal-end = refl
+same-end : sameBytes [] [] ≡ true
+unfolding sameBytes
+same-end = refl
 
--- an event's record is the bytes of its numbers
-pub bytes-written : (e : Event) → carried e ≡ true → fieldBytes (fieldsOf e) ≡ writeEvent e
-unfolding fieldBytes layout
-bytes-written Unreadable h = absurd (false≢true h)
-bytes-written (Install i x d) h = refl
-bytes-written (Remove i) h = refl
-bytes-written (Start i) h = refl
-bytes-written Terminate h = refl
-bytes-written (Request p u) h = refl
-
-length-event : (e : Event) → carried e ≡ true → length (writeEvent e) ≡ 24
+length-event : (e : Event) → length (writeEvent e) ≡ eventSize
 unfolding fieldBytes bytesOf
-length-event e h = ap length (sym (bytes-written e h))
+length-event e = refl
 
 module _ (l : List ℕ) (bytes : (k : ℕ) → getD l k 0 < 256) where
   -- one byte at place i, and what follows
-  equal-byte : (x : ℕ) (vs : List ℕ) (i : ℕ) → i < length l
-      → equal (x ∷ vs) (drop i l) ≡ (eqb x (getD l i 0) && equal vs (drop (suc i) l))
-  unfolding equal
-  equal-byte x vs i h = rw (drop-cons l i 0)
+  same-byte : (x : ℕ) (vs : List ℕ) (i : ℕ) → i < length l
+      → sameBytes (x ∷ vs) (drop i l) ≡ (eqb x (getD l i 0) && sameBytes vs (drop (suc i) l))
+  unfolding sameBytes
+  same-byte x vs i h = rw (drop-cons l i 0)
 
   -- a number of w bytes at place i, and what follows
-  equal-number : (w x : ℕ) (vs : List ℕ) (i : ℕ) → x < 256 ^ w → i + w ≤ length l
-      → equal (bytesOf w x ++ vs) (drop i l) ≡ (eqb x (leAt w l i) && equal vs (drop (i + w) l))
+  same-number : (w x : ℕ) (vs : List ℕ) (i : ℕ) → x < 256 ^ w → i + w ≤ length l
+      → sameBytes (bytesOf w x ++ vs) (drop i l) ≡ (eqb x (leAt w l i) && sameBytes vs (drop (i + w) l))
   unfolding bytesOf leAt
-  equal-number zero x vs i b h =
+  same-number zero x vs i b h =
       let z : x ≡ 0 = omega (arith, pow-zero 256) in
       rw (add-zero, eq-eqb x 0 z)
-  equal-number (suc w) x vs i b h =
+  same-number (suc w) x vs i b h =
       let e : i + suc w ≡ i + 1 + w = omega arith in
-      let r = equal-number w (x / 256) vs (i + 1) (omega (arith, pow-succ' 256 w)) (omega arith) in
-      equal-byte (x % 256) (bytesOf w (x / 256) ++ vs) i (omega arith)
+      let r = same-number w (x / 256) vs (i + 1) (omega (arith, pow-succ' 256 w)) (omega arith) in
+      same-byte (x % 256) (bytesOf w (x / 256) ++ vs) i (omega arith)
       ∙ rw (← add-one i, r, eqb-split x (getD l i 0) (leAt w l (i + 1)) (bytes i), e, and-assoc)
 
-  module _ (size : length l ≡ 24) where
-    equal-layout : (k d i p u r o : ℕ) → i < 256 ^ 2 → r < 256 ^ 8 → o < 256 ^ 8
-        → equal (layout k d i p u r o) l ≡ sameFields (fields k d i p u r o) (fieldsAt l)
-    unfolding layout sameFields fieldsAt
-    equal-layout k d i p u r o a b c =
+  module _ (size : length l ≡ eventSize) where
+    same-numbers : (k d i p u r o : ℕ) → i < 256 ^ 2 → r < 256 ^ 8 → o < 256 ^ 8
+        → sameBytes (fieldBytes (numbers k d i p u r o)) l ≡ sameFields (numbers k d i p u r o) (fieldsAt l)
+    unfolding fieldBytes sameFields fieldsAt
+    same-numbers k d i p u r o a b c =
         rw (
-          equal-byte k _ 0 (omega arith),
-          equal-byte d _ 1 (omega arith),
-          equal-number 2 i _ 2 a (omega arith),
-          equal-byte p _ 4 (omega arith),
-          equal-byte u _ 5 (omega arith),
-          equal-number 2 0 _ 6 (lit< tt) (omega arith),
-          equal-number 8 r _ 8 b (omega arith),
+          same-byte k _ 0 (omega arith),
+          same-byte d _ 1 (omega arith),
+          same-number 2 i _ 2 a (omega arith),
+          same-byte p _ 4 (omega arith),
+          same-byte u _ 5 (omega arith),
+          same-number 2 0 _ 6 (lit< tt) (omega arith),
+          same-number 8 r _ 8 b (omega arith),
           ← append-nil (bytesOf 8 o),
-          equal-number 8 o [] 16 c (omega arith),
+          same-number 8 o [] 16 c (omega arith),
           drop-of-length-le l {i = 24} (omega arith),
-          equal-end,
+          same-end,
           and-true,
         )
 
-    equal-event : (e : Event) → carried e ≡ true → equal (writeEvent e) l ≡ sameFields (fieldsOf e) (fieldsAt l)
-    equal-event Unreadable h = absurd (false≢true h)
-    equal-event (Install i x d) h =
+    same-event : (e : Event) → carried e ≡ true → sameBytes (writeEvent e) l ≡ sameFields (fieldsOf e) (fieldsAt l)
+    same-event Unreadable h = absurd (false≢true h)
+    same-event (Install i x d) h =
         let (is, r, rest) = all-three (isSuite i) (isSet (x .required)) _ h in
         let (o, _) = both (isSet (x .optional)) (isDomain d) rest in
-        equal-layout 1 (d .0) (i .0) 0 0 (x .required) (x .optional) (number i is)
+        same-numbers 1 (d .0) (i .0) 0 0 (x .required) (x .optional) (number i is)
         (ltb-true (x .required) (2 ^ 64) r) (ltb-true (x .optional) (2 ^ 64) o)
-    equal-event (Remove i) h = equal-layout 2 0 (i .0) 0 0 0 0 (number i h) (lit< tt) (lit< tt)
-    equal-event (Start i) h = equal-layout 3 0 (i .0) 0 0 0 0 (number i h) (lit< tt) (lit< tt)
-    equal-event Terminate h = equal-layout 4 0 0 0 0 0 0 (lit< tt) (lit< tt) (lit< tt)
-    equal-event (Request p u) h = equal-layout 5 0 0 (p .0) (answerNo u) 0 0 (lit< tt) (lit< tt) (lit< tt)
+    same-event (Remove i) h = same-numbers 2 0 (i .0) 0 0 0 0 (number i h) (lit< tt) (lit< tt)
+    same-event (Start i) h = same-numbers 3 0 (i .0) 0 0 0 0 (number i h) (lit< tt) (lit< tt)
+    same-event Terminate h = same-numbers 4 0 0 0 0 0 0 (lit< tt) (lit< tt) (lit< tt)
+    same-event (Request p u) h = same-numbers 5 0 0 (p .0) (answerNo u) 0 0 (lit< tt) (lit< tt) (lit< tt)
 
     by-numbers : readEvent l
         ≡ (let e = eventOf (fieldsAt l) in cond (carried e && sameFields (fieldsOf e) (fieldsAt l)) e Unreadable)
-    unfolding readEvent eventIn eventOf fieldsAt
+    unfolding readEvent eventIn
     by-numbers = go (carried (eventIn l)) refl
       where
-        go : (c : Bool) → carried (eventIn l) ≡ c → cond (c && equal (writeEvent (eventIn l)) l) (eventIn l) Unreadable
+        go : (c : Bool) → carried (eventIn l) ≡ c → cond (c && sameBytes (writeEvent (eventIn l)) l) (eventIn l) Unreadable
             ≡ cond (c && sameFields (fieldsOf (eventIn l)) (fieldsAt l)) (eventIn l) Unreadable
-        go true h = rw (equal-event (eventIn l) h)
+        go true h = rw (same-event (eventIn l) h)
         go false h = refl
 
     -- 24 bytes are read by their numbers: f, of which e may be the event, g the numbers of e's record
@@ -107,12 +99,12 @@ module _ (l : List ℕ) (bytes : (k : ℕ) → getD l k 0 < 256) where
     read-numbers p q r s t = sym (by-numbers ∙ rw (← p, ← q, ← r, ← s, ← t))
 
 -- any other number of bytes is no event
-pub read-other : (l : List ℕ) → (length l ≡ 24 → ⊥) → readEvent l ≡ Unreadable
+pub read-other : (l : List ℕ) → (length l ≡ eventSize → ⊥) → readEvent l ≡ Unreadable
 unfolding readEvent
-read-other l n = go (carried (eventIn l)) (equal (writeEvent (eventIn l)) l) refl refl
+read-other l n = go (carried (eventIn l)) (sameBytes (writeEvent (eventIn l)) l) refl refl
   where
-    go : (c t : Bool) → carried (eventIn l) ≡ c → equal (writeEvent (eventIn l)) l ≡ t
+    go : (c t : Bool) → carried (eventIn l) ≡ c → sameBytes (writeEvent (eventIn l)) l ≡ t
         → cond (c && t) (eventIn l) Unreadable ≡ Unreadable
-    go true true h e = absurd (n (ap length (sym (same-equal (writeEvent (eventIn l)) l e)) ∙ length-event (eventIn l) h))
+    go true true h e = absurd (n (ap length (sym (same-bytes (writeEvent (eventIn l)) l e)) ∙ length-event (eventIn l)))
     go true false h e = refl
     go false t h e = refl

@@ -7,16 +7,16 @@ use mathlib.Core.List.{List}
 use Prim.Native.Nat.{ℕ}
 use lib.ListN.{length}
 use lib.Dec.{eqb}
-use Rattle.model.specs.declared.Event.{Event}
-use Rattle.model.specs.declared.Response.{Response}
+use Rattle.device.specs.declared.Event.{Event}
+use Rattle.device.specs.declared.Response.{Response}
 use Rattle.model.specs.Events.{writeEvent, carried, readEvent, eventSize}
-use Rattle.model.specs.Answers.{refused, DONE, BAD-EVENT, BAD-LENGTH}
-use Rattle.model.specs.Calls.{leaving, writeCall}
+use Rattle.device.specs.Answers.{refused, DONE, BAD-EVENT, BAD-LENGTH}
+use Rattle.model.specs.Calls.{reading, readCall, leaving, writeCall}
 use Rattle.model.proofs.Calls.{one-outcome}
 use Rattle.model.proofs.RoundTrip.{written-back, read-back}
 
-pub read-unique : (bytes : List ℕ) {e e' : Event} → e ≡ readEvent bytes → e' ≡ readEvent bytes → e ≡ e'
-read-unique bytes p q = p ∙ sym q
+pub read-unique : (bytes : List ℕ) {e e' : Event} → reading e ≡ readCall bytes → reading e' ≡ readCall bytes → e ≡ e'
+read-unique bytes p q = ap (λ r. r .event) (p ∙ sym q)
 
 module _ (event : Event) (entry : List ℕ) {exit : List ℕ} {r : Response} (wrote : leaving exit r ≡ writeCall event entry) where
   pub write-unique : {exit' : List ℕ} {r' : Response} → leaving exit' r' ≡ writeCall event entry → (exit ≡ exit') × (r ≡ r')
@@ -42,13 +42,14 @@ module _ (event : Event) (entry : List ℕ) {exit : List ℕ} {r : Response} (wr
   write-done h = ⊎-elim (λ no. absurd (true≢false (sym (no .0) ∙ h))) (λ yes. (yes .1, yes .2)) either
 
   -- a record that was read, written back
-  pub record-back : (bytes : List ℕ) → event ≡ readEvent bytes → refused r ≡ false → exit ≡ bytes
+  pub record-back : (bytes : List ℕ) → reading event ≡ readCall bytes → refused r ≡ false → exit ≡ bytes
   record-back bytes p h =
       let (c, e) = write-done h in
-      e ∙ ap writeEvent p ∙ written-back bytes (rw p at c)
+      let q = ap (λ r. r .event) p in
+      e ∙ ap writeEvent q ∙ written-back bytes (rw q at c)
 
   -- an event that was written, read back
-  pub event-back : {event' : Event} → event' ≡ readEvent exit → refused r ≡ false → event' ≡ event
+  pub event-back : {event' : Event} → reading event' ≡ readCall exit → refused r ≡ false → event' ≡ event
   event-back p h =
       let (c, e) = write-done h in
-      p ∙ ap readEvent e ∙ read-back event c
+      ap (λ r. r .event) p ∙ ap readEvent e ∙ read-back event c

@@ -2,52 +2,42 @@
 ghost use mathlib.Core.Path.{_≡_};
 ghost use mathlib.Core.Bool.{cond};
 ghost use lib.ListN.{length};
-ghost use Rattle.model.specs.declared.Event.the-variants.{Unreadable};
-ghost use Rattle.model.specs.Events.{carried, layout, readEvent};
-ghost use Rattle.model.specs.Calls.{leaving, writeCall};
-ghost use Rattle.events.specs.Fields.{fieldsAt, fieldsOf, eventOf, sameFields, fieldBytes};
+ghost use Rattle.device.specs.declared.Event.the-variants.{Unreadable};
+ghost use Rattle.model.specs.Events.{eventSize, fieldsAt, fieldBytes, numbers, fieldsOf, eventOf, carried, readEvent};
+ghost use Rattle.model.specs.Calls.{reading, readCall, leaving, writeCall};
+ghost use Rattle.events.specs.Fields.{sameFields};
 
-// The numbers of a record, where they stand in it.
-struct Fields {
-    pub kind: u8,
-    pub domain: u8,
-    pub suite: u16,
-    pub permission: u8,
-    pub answer: u8,
-    pub pad: u16,
-    pub required: u64,
-    pub optional: u64,
-}
+pub const EVENT_SIZE: usize = 24;
 
 // The event that a record's numbers may say.
-fn event_of(f: Fields) -> model::Event
+fn event_of(f: device::Fields) -> device::Event
     ensures { λ r. ⌜ r ≡ eventOf f ⌝ }
 {
     let kind = f.kind;
     match kind {
         1 => {
-            let descriptor = model::Descriptor {
+            let descriptor = device::Descriptor {
                 required: f.required,
                 optional: f.optional,
             };
-            model::Event::Install(model::Suite(f.suite), descriptor, model::Domain(f.domain))
+            device::Event::Install(device::Suite(f.suite), descriptor, device::Domain(f.domain))
         }
-        2 => model::Event::Remove(model::Suite(f.suite)),
-        3 => model::Event::Start(model::Suite(f.suite)),
-        4 => model::Event::Terminate,
-        5 => model::Event::Request(
-            model::Permission(f.permission),
-            model::UserAnswer::of(f.answer),
+        2 => device::Event::Remove(device::Suite(f.suite)),
+        3 => device::Event::Start(device::Suite(f.suite)),
+        4 => device::Event::Terminate,
+        5 => device::Event::Request(
+            device::Permission(f.permission),
+            device::UserAnswer::of(f.answer),
         ),
-        _ => model::Event::Unreadable,
+        _ => device::Event::Unreadable,
     }
 }
 
 // The numbers of an event's record: what its kind does not use is 0.
-fn fields_of(e: model::Event) -> Fields
+fn fields_of(e: device::Event) -> device::Fields
     ensures { λ r. ⌜ r ≡ fieldsOf e ⌝ }
 {
-    let mut f = Fields {
+    let mut f = device::Fields {
         kind: 0,
         domain: 0,
         suite: 0,
@@ -58,8 +48,8 @@ fn fields_of(e: model::Event) -> Fields
         optional: 0,
     };
     match e {
-        model::Event::Unreadable => f,
-        model::Event::Install(i, x, d) => {
+        device::Event::Unreadable => f,
+        device::Event::Install(i, x, d) => {
             f.kind = 1;
             f.domain = d.0;
             f.suite = i.0;
@@ -67,21 +57,21 @@ fn fields_of(e: model::Event) -> Fields
             f.optional = x.optional;
             f
         }
-        model::Event::Remove(i) => {
+        device::Event::Remove(i) => {
             f.kind = 2;
             f.suite = i.0;
             f
         }
-        model::Event::Start(i) => {
+        device::Event::Start(i) => {
             f.kind = 3;
             f.suite = i.0;
             f
         }
-        model::Event::Terminate => {
+        device::Event::Terminate => {
             f.kind = 4;
             f
         }
-        model::Event::Request(p, u) => {
+        device::Event::Request(p, u) => {
             f.kind = 5;
             f.permission = p.0;
             f.answer = u.number();
@@ -91,20 +81,20 @@ fn fields_of(e: model::Event) -> Fields
 }
 
 // A record can carry the event's values; the types bound the sets and the suite from above.
-fn fits(e: model::Event) -> bool
+fn fits(e: device::Event) -> bool
     ensures { λ r. ⌜ r ≡ carried e ⌝ }
 {
     match e {
-        model::Event::Unreadable => false,
-        model::Event::Install(i, _, d) => (0 < i.0) & (d.0 < 8),
-        model::Event::Remove(i) => 0 < i.0,
-        model::Event::Start(i) => 0 < i.0,
-        model::Event::Terminate => true,
-        model::Event::Request(p, _) => p.0 < 64,
+        device::Event::Unreadable => false,
+        device::Event::Install(i, _, d) => i.in_range() & d.in_range(),
+        device::Event::Remove(i) => i.in_range(),
+        device::Event::Start(i) => i.in_range(),
+        device::Event::Terminate => true,
+        device::Event::Request(p, _) => p.in_range(),
     }
 }
 
-fn same(f: Fields, g: Fields) -> bool
+fn same(f: device::Fields, g: device::Fields) -> bool
     ensures { λ r. ⌜ r ≡ sameFields f g ⌝ }
 {
     (f.kind == g.kind)
@@ -116,11 +106,11 @@ fn same(f: Fields, g: Fields) -> bool
                             & ((f.required == g.required) & (f.optional == g.optional)))))))
 }
 
-fn fields_at(bytes: &[u8]) -> Fields
-    requires { ⌜ length (now bytes) ≡ 24 ⌝ }
+fn fields_at(bytes: &[u8]) -> device::Fields
+    requires { ⌜ length (now bytes) ≡ eventSize ⌝ }
     ensures { λ r. ⌜ r ≡ fieldsAt (now (bytes .entry)) ⌝ }
 {
-    Fields {
+    device::Fields {
         kind: bytes[0],
         domain: bytes[1],
         suite: words::read16(bytes, 2),
@@ -132,8 +122,8 @@ fn fields_at(bytes: &[u8]) -> Fields
     }
 }
 
-fn put_fields(bytes: &mut [u8], f: Fields)
-    requires { ⌜ length (now bytes) ≡ 24 ⌝ }
+fn put_fields(bytes: &mut [u8], f: device::Fields)
+    requires { ⌜ length (now bytes) ≡ eventSize ⌝ }
     ensures { λ _. ⌜ now (bytes .exit) ≡ fieldBytes f ⌝ }
 {
     words::write8(bytes, 0, f.kind);
@@ -146,21 +136,21 @@ fn put_fields(bytes: &mut [u8], f: Fields)
     words::write64(bytes, 16, f.optional);
 }
 
-fn where_good(good: bool, e: model::Event) -> model::Event
+fn where_good(good: bool, e: device::Event) -> device::Event
     ensures { λ r. ⌜ r ≡ cond good e Unreadable ⌝ }
 {
     if good {
         return e;
     }
-    model::Event::Unreadable
+    device::Event::Unreadable
 }
 
 // The event of a record; `Unreadable`, which is refusal 18, for every other list of bytes.
-pub fn read_event(bytes: &[u8]) -> model::Event
-    ensures { λ r. ⌜ r ≡ readEvent (now (bytes .entry)) ⌝ }
+pub fn read_event(bytes: &[u8]) -> device::Event
+    ensures { λ r. ⌜ reading r ≡ readCall (now (bytes .entry)) ⌝ }
 {
-    if bytes.len() != 24 {
-        return model::Event::Unreadable;
+    if bytes.len() != EVENT_SIZE {
+        return device::Event::Unreadable;
     }
     let f = fields_at(bytes);
     let e = event_of(f);
@@ -168,18 +158,18 @@ pub fn read_event(bytes: &[u8]) -> model::Event
 }
 
 // The event into 24 lent bytes: 18 for a value that no record carries, then 30 for another size.
-pub fn write_event(event: model::Event, bytes: &mut [u8]) -> model::Response
+pub fn write_event(event: device::Event, bytes: &mut [u8]) -> device::Response
     ensures { λ r. ⌜ leaving (now (bytes .exit)) r ≡ writeCall event (now (bytes .entry)) ⌝ }
 {
     let good = fits(event);
     if good {
-        if bytes.len() == 24 {
+        if bytes.len() == EVENT_SIZE {
             put_fields(bytes, fields_of(event));
-            return model::Response::plain(0);
+            return device::Response::done();
         }
-        return model::Response::plain(30);
+        return device::Response::bad_length();
     }
-    model::Response::plain(18)
+    device::Response::bad_event()
 }
 
 // The event whose record has these numbers; `Unreadable` where no record has.
@@ -191,10 +181,10 @@ pub fn event_with(
     answer: u8,
     required: u64,
     optional: u64,
-) -> model::Event
-    ensures { λ r. ⌜ r ≡ readEvent (layout kind domain suite permission answer required optional) ⌝ }
+) -> device::Event
+    ensures { λ r. ⌜ r ≡ readEvent (fieldBytes (numbers kind domain suite permission answer required optional)) ⌝ }
 {
-    let f = Fields {
+    let f = device::Fields {
         kind: kind,
         domain: domain,
         suite: suite,
@@ -204,7 +194,7 @@ pub fn event_with(
         required: required,
         optional: optional,
     };
-    let mut bytes = [0u8; 24];
+    let mut bytes = [0u8; EVENT_SIZE];
     put_fields(&mut bytes, f);
     read_event(&bytes)
 }

@@ -2,7 +2,7 @@
 use Prim.Native.Nat.{ℕ}
 use mathlib.Core.Path.{_≡_, ap, ap₂, _∙_}
 use mathlib.Core.List.{List}
-use Rattle.model.specs.declared.Response.{Response}
+use Rattle.device.specs.declared.Response.{Response}
 use Rattle.model.specs.Calls.{Called, leaving, Ran, counted}
 use Rattle.export.specs.Packed.{packed, sent, packedCall, sentRun, packedRun}
 

@@ -2,7 +2,7 @@
 -- part's offset with its length above it".
 use Prim.Native.Nat.{ℕ, _+_, _*_, _^_}
 use mathlib.Core.List.{List}
-use Rattle.model.specs.declared.Response.{Response}
+use Rattle.device.specs.declared.Response.{Response}
 use Rattle.model.specs.Calls.{Called, Ran, Part}
 
 abbrev pub packed : Response → ℕ

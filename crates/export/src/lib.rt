@@ -2,15 +2,23 @@
 // precondition.
 ghost use mathlib.Core.Path.{_≡_};
 ghost use Prim.Native.Nat.{suc, _*_, _<_};
+ghost use Rattle.device.specs.Device.{slotCount};
 ghost use Rattle.model.specs.State.{recordSize};
-ghost use Rattle.model.specs.Events.{layout, readEvent};
-ghost use Rattle.model.specs.Calls.{newCall, readAnswer, writeCall, checkCall, stepCall, runCall, findCall, partCall};
+ghost use Rattle.model.specs.Events.{fieldBytes, numbers, readEvent};
+ghost use Rattle.model.specs.Calls.{newCall, readAnswer, readCall, writeCall, checkCall, stepCall, runCall, findCall, partCall};
 ghost use Rattle.export.specs.Packed.{packed, packedPart, sent, packedCall, sentRun, packedRun};
 
-fn pack(r: model::Response) -> u32
+// What the detail is worth in a packed answer, and the length in a packed part.
+const DETAIL: u32 = 256;
+
+const LENGTH: u64 = 4294967296;
+
+const RECORD_SIZE: u64 = store::RECORD_SIZE as u64;
+
+fn pack(r: device::Response) -> u32
     ensures { λ n. ⌜ n ≡ packed r ⌝ }
 {
-    (r.number as u32) + 256 * (r.detail as u32)
+    (r.number as u32) + DETAIL * (r.detail as u32)
 }
 
 #[no_mangle]
@@ -28,24 +36,24 @@ pub extern "C" fn tm_check(policy: &[u8], state: &[u8]) -> u32
     pack(monitor::check(policy, state))
 }
 
-fn read_number(event: model::Event) -> u32
-    ensures { λ n. ⌜ n ≡ packed (readAnswer event) ⌝ }
+fn read_answer(event: device::Event) -> device::Response
+    ensures { λ r. ⌜ r ≡ readAnswer event ⌝ }
 {
     match event {
-        model::Event::Unreadable => 18,
-        model::Event::Install(_, _, _) => 0,
-        model::Event::Remove(_) => 0,
-        model::Event::Start(_) => 0,
-        model::Event::Terminate => 0,
-        model::Event::Request(_, _) => 0,
+        device::Event::Unreadable => device::Response::bad_event(),
+        device::Event::Install(_, _, _) => device::Response::done(),
+        device::Event::Remove(_) => device::Response::done(),
+        device::Event::Start(_) => device::Response::done(),
+        device::Event::Terminate => device::Response::done(),
+        device::Event::Request(_, _) => device::Response::done(),
     }
 }
 
 #[no_mangle]
 pub extern "C" fn tm_read_event(bytes: &[u8]) -> u32
-    ensures { λ n. ⌜ n ≡ packed (readAnswer (readEvent (now (bytes .entry)))) ⌝ }
+    ensures { λ n. ⌜ n ≡ packed (readCall (now (bytes .entry)) .response) ⌝ }
 {
-    read_number(monitor::read_event(bytes))
+    pack(read_answer(monitor::read_event(bytes)))
 }
 
 #[no_mangle]
@@ -60,7 +68,7 @@ pub extern "C" fn tm_write_event(
     bytes: &mut [u8],
 ) -> u32
     ensures { λ n. ⌜ sent n (now (bytes .exit))
-        ≡ packedCall (writeCall (readEvent (layout kind domain suite permission answer required optional)) (now (bytes .entry))) ⌝ }
+        ≡ packedCall (writeCall (readEvent (fieldBytes (numbers kind domain suite permission answer required optional))) (now (bytes .entry))) ⌝ }
 {
     let event = events::event_with(kind, domain, suite, permission, answer, required, optional);
     pack(monitor::write_event(event, bytes))
@@ -94,24 +102,25 @@ pub extern "C" fn tm_run(
 pub extern "C" fn tm_find(policy: &[u8], state: &[u8], suite: u16) -> u32
     ensures { λ n. ⌜ n ≡ packed (findCall (now (policy .entry)) (now (state .entry)) (record { 0 = suite })) ⌝ }
 {
-    pack(monitor::find(policy, state, model::Suite(suite)))
+    pack(monitor::find(policy, state, device::Suite(suite)))
 }
 
 // The record of slot k: `offset | length << 32`.
 fn slot_part(k: usize) -> u64
-    requires { ⌜ k < 32 ⌝ }
+    requires { ⌜ k < slotCount ⌝ }
     ensures { λ n. ⌜ n ≡ packedPart (record { from = recordSize * suc k; size = recordSize }) ⌝ }
 {
-    40 * 4294967296 + 40 * (k as u64) + 40
+    LENGTH * RECORD_SIZE + RECORD_SIZE * (k as u64) + RECORD_SIZE
 }
 
 #[no_mangle]
 pub extern "C" fn tm_record(policy: &[u8], state: &[u8], suite: u16) -> u64
     ensures { λ n. ⌜ n ≡ packedPart (partCall (now (policy .entry)) (now (state .entry)) (record { 0 = suite })) ⌝ }
 {
-    let found = monitor::find(policy, state, model::Suite(suite));
-    if 16 <= found.number {
+    let found = monitor::find(policy, state, device::Suite(suite));
+    let refused = found.refused();
+    if refused {
         return 0;
     }
-    slot_part(store::place_of(state, model::Suite(suite)))
+    slot_part(store::place_of(state, device::Suite(suite)))
 }

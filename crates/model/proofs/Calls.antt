@@ -7,13 +7,13 @@ use Prim.Native.Nat.{ℕ}
 use lib.ListN.{length, replicate}
 use lib.Dec.{eqb}
 use borrow.Author.Tests.{eqb-true}
-use Rattle.model.specs.declared.Suite.{Suite}
-use Rattle.model.specs.declared.Response.{Response}
-use Rattle.model.specs.Device.{isSuite}
-use Rattle.model.specs.Policy.{fixedBy, policyRight}
+use Rattle.device.specs.declared.Suite.{Suite}
+use Rattle.device.specs.declared.Response.{Response}
+use Rattle.device.specs.Device.{isSuite}
+use Rattle.model.specs.Policy.{fixedBy, policyValid}
 use Rattle.model.specs.State.{carries, readState, stateSize}
-use Rattle.model.specs.Valid.{stateRight}
-use Rattle.model.specs.Answers.{refused, DONE, BAD-POLICY, BAD-STATE, NOT-INSTALLED}
+use Rattle.model.specs.Valid.{stateValid}
+use Rattle.device.specs.Answers.{refused, DONE, BAD-POLICY, BAD-STATE, NOT-INSTALLED}
 use Rattle.model.specs.Calls.{Called, leaving, newCall, checkCall, findCall}
 use Rattle.model.proofs.Tests.{both}
 
@@ -33,19 +33,19 @@ new-leaves b =
 -- ---- a check that is passed
 
 pub record Passed (policy b : List ℕ) : Type 0 where
-  pub policy-right : policyRight policy ≡ true
-  pub state-right : stateRight (fixedBy policy) b ≡ true
+  pub policy-valid : policyValid policy ≡ true
+  pub state-valid : stateValid (fixedBy policy) b ≡ true
   pub sized : length b ≡ stateSize
 
 pub passed : (policy b : List ℕ) → refused (checkCall policy b) ≡ false → Passed policy b
-unfolding checkCall stateRight
-passed policy b h = go (policyRight policy) refl (stateRight (fixedBy policy) b) refl h
+unfolding checkCall stateValid
+passed policy b h = go (policyValid policy) refl (stateValid (fixedBy policy) b) refl h
   where
-    go : (p : Bool) → policyRight policy ≡ p → (s : Bool) → stateRight (fixedBy policy) b ≡ s
+    go : (p : Bool) → policyValid policy ≡ p → (s : Bool) → stateValid (fixedBy policy) b ≡ s
         → refused (cond (not p) BAD-POLICY (cond (not s) BAD-STATE DONE)) ≡ false → Passed policy b
     go false e s i h = absurd (true≢false h)
     go true e false i h = absurd (true≢false h)
-    go true e true i h = record { policy-right = e; state-right = i; sized = eqb-true _ _ (both (eqb (length b) stateSize) _ i .0) }
+    go true e true i h = record { policy-valid = e; state-valid = i; sized = eqb-true _ _ (both (eqb (length b) stateSize) _ i .0) }
 
 -- what is found is installed
 pub found : (policy b : List ℕ) (i : Suite) → refused (findCall policy b i) ≡ false

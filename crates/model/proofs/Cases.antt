@@ -5,14 +5,16 @@ use mathlib.Core.Path.{_≡_, refl}
 use mathlib.Core.Bool.{true, false}
 use mathlib.Core.List.{List, [], _∷_, _++_, map}
 use lib.ListN.{getD, take, drop, set, replicate}
-use Rattle.model.specs.declared.Event.{Event}
-use Rattle.model.specs.declared.Event.the-variants.{Unreadable, Terminate}
-use Rattle.model.specs.declared.Mode.the-variants.{Oneshot as oneshot, Session as session, Blanket as blanket}
-use Rattle.model.specs.declared.UserAnswer.the-variants.{None, Allow, Deny}
-use Rattle.model.specs.Policy.{admits, fixedBy}
-use Rattle.model.specs.State.{State, free}
+use Rattle.device.specs.declared.Event.{Event}
+use Rattle.device.specs.declared.Event.the-variants.{Unreadable, Terminate}
+use Rattle.device.specs.declared.Mode.the-variants.{Oneshot as oneshot, Session as session, Blanket as blanket}
+use Rattle.device.specs.declared.UserAnswer.the-variants.{None, Allow, Deny}
+use Rattle.device.specs.Cells.{admits}
+use Rattle.model.specs.Policy.{fixedBy}
+use Rattle.model.specs.State.{State}
+use Rattle.device.specs.Empty.{free}
 use Rattle.model.specs.Events.{readEvent}
-use Rattle.model.specs.Answers.{plain, detailed}
+use Rattle.device.specs.Answers.{plain, detailed}
 use Rattle.model.specs.Run.{responses}
 use Rattle.model.specs.Calls.{readAnswer}
 use Rattle.model.proofs.Worked.{zeros, install, remove, start, ask, answers, left, computed}

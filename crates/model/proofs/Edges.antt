@@ -5,15 +5,16 @@ use mathlib.Core.Path.{_≡_, refl}
 use mathlib.Core.Bool.{true, false}
 use mathlib.Core.List.{List, [], _∷_, _++_, map}
 use lib.ListN.{drop, set, replicate}
-use Rattle.model.specs.declared.Event.the-variants.{Unreadable}
-use Rattle.model.specs.declared.UserAnswer.the-variants.{None}
-use Rattle.model.specs.declared.Response.{Response}
-use Rattle.model.specs.declared.Slot.{Slot}
-use Rattle.model.specs.declared.Session.{Session}
+use Rattle.device.specs.declared.Event.the-variants.{Unreadable}
+use Rattle.device.specs.declared.UserAnswer.the-variants.{None}
+use Rattle.device.specs.declared.Response.{Response}
+use Rattle.device.specs.declared.Slot.{Slot}
+use Rattle.device.specs.declared.Session.{Session}
 use Rattle.model.specs.Policy.{fixedBy}
-use Rattle.model.specs.State.{State, new, free, slotAt, writeState, slotBytes, sessionAt, sessionBytes}
+use Rattle.model.specs.State.{State, new, slotAt, writeState, slotBytes, sessionAt, sessionBytes}
+use Rattle.device.specs.Empty.{free}
 use Rattle.model.specs.Valid.{slotValid, slotsValid, sessionSound, sessionValid}
-use Rattle.model.specs.Answers.{plain}
+use Rattle.device.specs.Answers.{plain}
 use Rattle.model.specs.Calls.{newCall, writeCall, checkCall, stepCall, runCall, Part, findCall, partCall}
 use Rattle.model.proofs.Worked.{policy, zeros, install, start, ask, computed}
 use Rattle.model.proofs.Cases.{short, counted}

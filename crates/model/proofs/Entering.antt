@@ -7,24 +7,25 @@ use lib.Dec.{eqb}
 use borrow.Author.Tests.{eq-eqb, ltb-true, lt-ltb}
 use Rattle.words.specs.Sets.{insert}
 use Rattle.words.proofs.Sets.{member-insert, insert-lt}
-use Rattle.model.specs.declared.Permission.{Permission}
-use Rattle.model.specs.declared.Mode.{Mode}
-use Rattle.model.specs.declared.Mode.the-variants.{Oneshot as oneshot, Session as session, Blanket as blanket}
-use Rattle.model.specs.declared.UserAnswer.{UserAnswer}
-use Rattle.model.specs.declared.Standing.{Standing}
-use Rattle.model.specs.declared.Standing.the-variants.{Nothing, Granted, Revoked}
-use Rattle.model.specs.declared.Decisions.{Decisions}
-use Rattle.model.specs.declared.Slot.{Slot}
-use Rattle.model.specs.declared.Session.{Session}
-use Rattle.model.specs.Device.{isPermission, isSet, has}
-use Rattle.model.specs.Policy.{Fixed, offered, unconditional, admits}
+use Rattle.device.specs.declared.Permission.{Permission}
+use Rattle.device.specs.declared.Mode.{Mode}
+use Rattle.device.specs.declared.Mode.the-variants.{Oneshot as oneshot, Session as session, Blanket as blanket}
+use Rattle.device.specs.declared.UserAnswer.{UserAnswer}
+use Rattle.device.specs.declared.Standing.{Standing}
+use Rattle.device.specs.declared.Standing.the-variants.{Nothing, Granted, Revoked}
+use Rattle.device.specs.declared.Decisions.{Decisions}
+use Rattle.device.specs.declared.Slot.{Slot}
+use Rattle.device.specs.declared.Session.{Session}
+use Rattle.device.specs.Device.{isPermission, isSet, has}
+use Rattle.model.specs.Policy.{Fixed}
+use Rattle.device.specs.Cells.{offered, unconditional, admits}
 use Rattle.model.specs.Valid.{declared, decides, fitting, fits, slotDecided}
 use Rattle.model.specs.Valid.{fitsBeside, sessionDecided}
-use Rattle.model.specs.Answers.{refused, NO-RIGHT, ANSWER-NOT-ASKED, MODE-TOO-WIDE, ALLOWED}
+use Rattle.device.specs.Answers.{refused, NO-RIGHT, ANSWER-NOT-ASKED, MODE-TOO-WIDE, ALLOWED}
 use Rattle.model.specs.Decision.{standing, stands, given, tooWide, settled, decision, grant, revoke}
 use Rattle.model.specs.Step.{sessionDeciding, slotDeciding}
 use Rattle.model.proofs.Tests.{all-three, three, every-but}
-use Rattle.model.proofs.Modes.{asked-cell}
+use Rattle.device.proofs.Modes.{asked-cell}
 
 -- ---- an answer of the user is entered only where it was asked for
 

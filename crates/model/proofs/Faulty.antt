@@ -5,19 +5,20 @@ use mathlib.Core.Path.{_≡_, refl}
 use mathlib.Core.Bool.{true, cond}
 use mathlib.Core.Logic.{inl, inr}
 use mathlib.Core.List.{List, [], _∷_}
-use Rattle.model.specs.declared.Suite.{Suite}
-use Rattle.model.specs.declared.Permission.{Permission}
-use Rattle.model.specs.declared.Mode.the-variants.{Blanket}
-use Rattle.model.specs.declared.UserAnswer.{UserAnswer}
-use Rattle.model.specs.declared.UserAnswer.the-variants.{None, Allow, Deny}
-use Rattle.model.specs.declared.Decisions.{Decisions}
-use Rattle.model.specs.declared.Slot.{Slot}
-use Rattle.model.specs.declared.Event.the-variants.{Terminate}
+use Rattle.device.specs.declared.Suite.{Suite}
+use Rattle.device.specs.declared.Permission.{Permission}
+use Rattle.device.specs.declared.Mode.the-variants.{Blanket}
+use Rattle.device.specs.declared.UserAnswer.{UserAnswer}
+use Rattle.device.specs.declared.UserAnswer.the-variants.{None, Allow, Deny}
+use Rattle.device.specs.declared.Decisions.{Decisions}
+use Rattle.device.specs.declared.Slot.{Slot}
+use Rattle.device.specs.declared.Event.the-variants.{Terminate}
 use Rattle.model.specs.Policy.{Fixed, fixedBy}
-use Rattle.model.specs.State.{State, undecided, find}
+use Rattle.model.specs.State.{State, find}
+use Rattle.device.specs.Empty.{undecided}
 use Rattle.model.specs.Valid.{declared, decides}
 use Rattle.model.specs.Events.{writeEvent}
-use Rattle.model.specs.Answers.{ALLOWED, ASK}
+use Rattle.device.specs.Answers.{ALLOWED, ASK}
 use Rattle.model.specs.Decision.{standing, decision}
 use Rattle.model.specs.Step.{Outcome, runningSlot, request, step}
 use Rattle.model.specs.Isolation.{seen, Alike, runs, Replaced}

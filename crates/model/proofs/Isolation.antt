@@ -7,25 +7,26 @@ use mathlib.Core.Logic.{⊎-elim}
 use mathlib.Core.List.{List, [], _∷_, map}
 use lib.ListN.{getD}
 use borrow.Author.Tests.{eqb-true}
-use Rattle.model.specs.declared.Suite.{Suite}
-use Rattle.model.specs.declared.Permission.{Permission}
-use Rattle.model.specs.declared.Mode.{Mode}
-use Rattle.model.specs.declared.Mode.the-variants.{Oneshot as oneshot, Session as session, Blanket as blanket}
-use Rattle.model.specs.declared.UserAnswer.{UserAnswer}
-use Rattle.model.specs.declared.UserAnswer.the-variants.{None, Allow, Deny}
-use Rattle.model.specs.declared.Decisions.{Decisions}
-use Rattle.model.specs.declared.Slot.{Slot}
-use Rattle.model.specs.declared.Session.{Session}
-use Rattle.model.specs.declared.Event.{Event}
-use Rattle.model.specs.declared.Event.the-variants.{Unreadable, Install, Remove, Start, Terminate, Request}
-use Rattle.model.specs.declared.Response.{Response}
-use Rattle.model.specs.Device.{isPermission, noSuite, same}
+use Rattle.device.specs.declared.Suite.{Suite}
+use Rattle.device.specs.declared.Permission.{Permission}
+use Rattle.device.specs.declared.Mode.{Mode}
+use Rattle.device.specs.declared.Mode.the-variants.{Oneshot as oneshot, Session as session, Blanket as blanket}
+use Rattle.device.specs.declared.UserAnswer.{UserAnswer}
+use Rattle.device.specs.declared.UserAnswer.the-variants.{None, Allow, Deny}
+use Rattle.device.specs.declared.Decisions.{Decisions}
+use Rattle.device.specs.declared.Slot.{Slot}
+use Rattle.device.specs.declared.Session.{Session}
+use Rattle.device.specs.declared.Event.{Event}
+use Rattle.device.specs.declared.Event.the-variants.{Unreadable, Install, Remove, Start, Terminate, Request}
+use Rattle.device.specs.declared.Response.{Response}
+use Rattle.device.specs.Device.{isPermission, noSuite, sameSuite}
 use Rattle.model.specs.Policy.{Fixed}
-use Rattle.model.specs.State.{State, withSession, withSlots, undecided, free, carries, find, amend, slotBytes}
-use Rattle.model.specs.Events.{carried, eventIn, equal, writeEvent, readEvent}
-use Rattle.model.specs.Answers.{refused, BAD-EVENT}
+use Rattle.model.specs.State.{State, withSession, withSlots, carries, find, amend, slotBytes}
+use Rattle.device.specs.Empty.{undecided, free}
+use Rattle.model.specs.Events.{carried, eventOf, eventIn, fieldsAt, sameBytes, writeEvent, readEvent}
+use Rattle.device.specs.Answers.{refused, BAD-EVENT}
 use Rattle.model.specs.Decision.{grant, revoke}
-use Rattle.model.specs.Step.{Outcome, answer, running, lacking, installed, runningSlot, judged, sessionDeciding}
+use Rattle.model.specs.Step.{Outcome, answer, inSession, lacking, installed, runningSlot, judged, sessionDeciding}
 use Rattle.model.specs.Step.{slotDeciding, keep, enter, request, step}
 use Rattle.model.specs.Isolation.{slotSeen, sessionSeen, seen, Alike, runs, marked, asks, MayReplace, Replaced, Equal}
 use Rattle.model.specs.Isolation.{Place, Isolated}
@@ -41,7 +42,7 @@ module _ (w : Suite) where
   -- ---- slots as w may know them
 
   slot-again : (x : Slot) → slotSeen w (slotSeen w x) ≡ slotSeen w x
-  slot-again x = ap (λ d. slotDeciding (λ _. d) x) (twice (same (x .suite) w) (x .decisions))
+  slot-again x = ap (λ d. slotDeciding (λ _. d) x) (twice (sameSuite (x .suite) w) (x .decisions))
 
   slots-again : (l : List Slot) → map (slotSeen w) (map (slotSeen w) l) ≡ map (slotSeen w) l
   slots-again [] = refl
@@ -50,18 +51,18 @@ module _ (w : Suite) where
   carries-seen : (j : Suite) (l : List Slot) → carries j (map (slotSeen w) l) ≡ carries j l
   unfolding carries
   carries-seen j [] = refl
-  carries-seen j (x ∷ xs) = ap (λ b. same (x .suite) j || b) (carries-seen j xs)
+  carries-seen j (x ∷ xs) = ap (λ b. sameSuite (x .suite) j || b) (carries-seen j xs)
 
   -- its own slot is seen in full
-  own-slot : (x : Slot) → same (x .suite) w ≡ true → slotSeen w x ≡ x
+  own-slot : (x : Slot) → sameSuite (x .suite) w ≡ true → slotSeen w x ≡ x
   own-slot x e = rw e
 
   find-seen : (l : List Slot) → find w (map (slotSeen w) l) ≡ find w l
   unfolding find
   find-seen [] = refl
-  find-seen (x ∷ xs) = go (same (x .suite) w) refl (find-seen xs)
+  find-seen (x ∷ xs) = go (sameSuite (x .suite) w) refl (find-seen xs)
     where
-      go : (b : Bool) → same (x .suite) w ≡ b → find w (map (slotSeen w) xs) ≡ find w xs
+      go : (b : Bool) → sameSuite (x .suite) w ≡ b → find w (map (slotSeen w) xs) ≡ find w xs
           → cond b (slotSeen w x) (find w (map (slotSeen w) xs)) ≡ cond b x (find w xs)
       go true e r = own-slot x e
       go false e r = r
@@ -71,7 +72,7 @@ module _ (w : Suite) where
       → map (slotSeen w) (amend i (λ _. y) (map (slotSeen w) l)) ≡ map (slotSeen w) (amend i (λ _. y) l)
   unfolding amend
   put-seen i y [] = refl
-  put-seen i y (x ∷ xs) = elim (same (x .suite) i) as
+  put-seen i y (x ∷ xs) = elim (sameSuite (x .suite) i) as
       (λ b. map (slotSeen w) (cond b (y ∷ map (slotSeen w) xs) (slotSeen w x ∷ amend i (λ _. y) (map (slotSeen w) xs)))
       ≡ map (slotSeen w) (cond b (y ∷ xs) (x ∷ amend i (λ _. y) xs)))
       [ true ↦ ap (λ l. slotSeen w y ∷ l) (slots-again xs) | false ↦ ap₂ _∷_ (slot-again x) (put-seen i y xs) ]
@@ -81,9 +82,9 @@ module _ (w : Suite) where
       → map (slotSeen w) (amend w (slotDeciding g) (map (slotSeen w) l)) ≡ map (slotSeen w) (amend w (slotDeciding g) l)
   unfolding amend
   own-seen g [] = refl
-  own-seen g (x ∷ xs) = go (same (x .suite) w) refl (own-seen g xs)
+  own-seen g (x ∷ xs) = go (sameSuite (x .suite) w) refl (own-seen g xs)
     where
-      go : (b : Bool) → same (x .suite) w ≡ b
+      go : (b : Bool) → sameSuite (x .suite) w ≡ b
           → map (slotSeen w) (amend w (slotDeciding g) (map (slotSeen w) xs)) ≡ map (slotSeen w) (amend w (slotDeciding g) xs)
           → map (slotSeen w) (cond b (slotDeciding g (slotSeen w x) ∷ map (slotSeen w) xs)
           (slotSeen w x ∷ amend w (slotDeciding g) (map (slotSeen w) xs)))
@@ -92,13 +93,13 @@ module _ (w : Suite) where
       go false e r = ap₂ _∷_ (slot-again x) r
 
   -- another suite's decisions change
-  other-seen : (i : Suite) (g : Decisions → Decisions) (l : List Slot) → same i w ≡ false
+  other-seen : (i : Suite) (g : Decisions → Decisions) (l : List Slot) → sameSuite i w ≡ false
       → map (slotSeen w) (amend i (slotDeciding g) l) ≡ map (slotSeen w) l
   unfolding amend
   other-seen i g [] n = refl
-  other-seen i g (x ∷ xs) n = go (same (x .suite) i) refl (other-seen i g xs n)
+  other-seen i g (x ∷ xs) n = go (sameSuite (x .suite) i) refl (other-seen i g xs n)
     where
-      go : (b : Bool) → same (x .suite) i ≡ b → map (slotSeen w) (amend i (slotDeciding g) xs) ≡ map (slotSeen w) xs
+      go : (b : Bool) → sameSuite (x .suite) i ≡ b → map (slotSeen w) (amend i (slotDeciding g) xs) ≡ map (slotSeen w) xs
           → map (slotSeen w) (cond b (slotDeciding g x ∷ xs) (x ∷ amend i (slotDeciding g) xs)) ≡ map (slotSeen w) (x ∷ xs)
       go true e r = rw (eqb-true (x .suite .0) (i .0) e, n)
       go false e r = ap (λ l. slotSeen w x ∷ l) r
@@ -108,7 +109,7 @@ module _ (w : Suite) where
   seen-again : (s : State) → seen w (seen w s) ≡ seen w s
   unfolding seen
   seen-again s = λ i. record {
-    session = record { suite = s .session .suite; decisions = twice (same (s .session .suite) w) (s .session .decisions) i };
+    session = record { suite = s .session .suite; decisions = twice (sameSuite (s .session .suite) w) (s .session .decisions) i };
     slots = slots-again (s .slots) i;
   }
 
@@ -132,7 +133,7 @@ module _ (w : Suite) where
     state = λ i. record {
       session = record {
         suite = s .session .suite;
-        decisions = sym (twice (same (s .session .suite) w) (s .session .decisions)) i;
+        decisions = sym (twice (sameSuite (s .session .suite) w) (s .session .decisions)) i;
       };
       slots = sym e i;
     };
@@ -161,12 +162,12 @@ module _ (w : Suite) where
         (same-cond (not (carries noSuite (s .slots))) (stays s) (other-slots s (put-seen noSuite (installed i x d) (s .slots))))))
     unasked (Remove i) h =
         rw (carries-seen i (s .slots))
-        (same-cond (not (carries i (s .slots))) (stays s) (same-cond (same (s .session .suite) i) (stays s)
+        (same-cond (not (carries i (s .slots))) (stays s) (same-cond (sameSuite (s .session .suite) i) (stays s)
         (other-slots s (put-seen i free (s .slots)))))
     unasked (Start i) h =
         rw (carries-seen i (s .slots))
-        (same-cond (running s) (stays s) (same-cond (not (carries i (s .slots))) (stays s) (other-session s refl)))
-    unasked Terminate h = same-cond (not (running s)) (stays s) (other-session s refl)
+        (same-cond (inSession s) (stays s) (same-cond (not (carries i (s .slots))) (stays s) (other-session s refl)))
+    unasked Terminate h = same-cond (not (inSession s)) (stays s) (other-session s refl)
     unasked (Request p u) h = absurd (true≢false h)
 
     -- ---- a request of its own
@@ -203,7 +204,7 @@ module _ (w : Suite) where
       own-request p u =
           let j = judged f (s .session) (runningSlot s) p u in
           rw (ap₂ (λ r x. judged f r x p u) own-session own-find)
-          (same-cond (not (running s)) (stays s) (same-cond (refused j) (stays s) (entered-seen u p)))
+          (same-cond (not (inSession s)) (stays s) (same-cond (refused j) (stays s) (entered-seen u p)))
 
     -- ---- a request of another suite
 
@@ -225,7 +226,7 @@ module _ (w : Suite) where
       other-request : (p : Permission) (u : UserAnswer) → seen w (step f s (Request p u) .state) ≡ seen w s
       unfolding step request
       other-request p u =
-          cases (Unseen s) (not (running s)) (λ _. unchanged)
+          cases (Unseen s) (not (inSession s)) (λ _. unchanged)
           (λ _. cases (Unseen s) (refused (judged f (s .session) (runningSlot s) p u)) (λ _. unchanged)
           (λ _. record { kept = other-entered u p })) .kept
         where
@@ -244,13 +245,13 @@ harmless Terminate = false
 harmless (Request p u) = true
 
 marked-in : (e : List ℕ) → getD e 0 0 ≡ 5 → harmless (eventIn e) ≡ true
-unfolding eventIn
+unfolding eventIn eventOf fieldsAt
 marked-in e k = rw k
 
 marked-harmless : (e : List ℕ) → marked e ≡ true → harmless (readEvent e) ≡ true
 unfolding readEvent
 marked-harmless e m =
-    elim (carried (eventIn e) && equal (writeEvent (eventIn e)) e) as (λ b. harmless (cond b (eventIn e) Unreadable) ≡ true)
+    elim (carried (eventIn e) && sameBytes (writeEvent (eventIn e)) e) as (λ b. harmless (cond b (eventIn e) Unreadable) ≡ true)
     [ true ↦ asked | false ↦ refl ]
   where
     asked : harmless (eventIn e) ≡ true
@@ -281,7 +282,7 @@ module _ (f : Fixed) (w : Suite) where
     running-same = ap (λ v. v .session .suite) alike
 
     runs-same : runs w t ≡ runs w s
-    runs-same = ap (λ i. same i w) (sym running-same)
+    runs-same = ap (λ i. sameSuite i w) (sym running-same)
 
     -- what is to be shown of two events
     abbrev Told : Event → Event → Type 0

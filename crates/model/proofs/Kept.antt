@@ -9,32 +9,34 @@ use lib.Dec.{eqb}
 use borrow.Author.Tests.{eqb-true, ne-eqb, ltb-true, ltb-false, not-true, not-false}
 use Rattle.words.proofs.Sets.{member-none}
 use Rattle.words.proofs.Search.{firstFrom-none}
-use Rattle.model.specs.declared.Suite.{Suite}
-use Rattle.model.specs.declared.Permission.{Permission}
-use Rattle.model.specs.declared.Domain.{Domain}
-use Rattle.model.specs.declared.Mode.{Mode}
-use Rattle.model.specs.declared.Mode.the-variants.{Oneshot as oneshot, Session as session, Blanket as blanket}
-use Rattle.model.specs.declared.UserAnswer.{UserAnswer}
-use Rattle.model.specs.declared.UserAnswer.the-variants.{None, Allow, Deny}
-use Rattle.model.specs.declared.Descriptor.{Descriptor}
-use Rattle.model.specs.declared.Decisions.{Decisions}
-use Rattle.model.specs.declared.Slot.{Slot}
-use Rattle.model.specs.declared.Session.{Session}
-use Rattle.model.specs.declared.Event.{Event}
-use Rattle.model.specs.declared.Event.the-variants.{Unreadable, Install, Remove, Start, Terminate, Request}
-use Rattle.model.specs.declared.Response.{Response}
-use Rattle.model.specs.Device.{isPermission, isDomain, isSuite, isSet, noSuite, same, has, lowest, slotCount}
-use Rattle.model.specs.Policy.{Fixed, offered}
-use Rattle.model.specs.State.{State, new, withSession, withSlots, undecided, free, idle, carries, find, amend}
+use Rattle.device.specs.declared.Suite.{Suite}
+use Rattle.device.specs.declared.Permission.{Permission}
+use Rattle.device.specs.declared.Domain.{Domain}
+use Rattle.device.specs.declared.Mode.{Mode}
+use Rattle.device.specs.declared.Mode.the-variants.{Oneshot as oneshot, Session as session, Blanket as blanket}
+use Rattle.device.specs.declared.UserAnswer.{UserAnswer}
+use Rattle.device.specs.declared.UserAnswer.the-variants.{None, Allow, Deny}
+use Rattle.device.specs.declared.Descriptor.{Descriptor}
+use Rattle.device.specs.declared.Decisions.{Decisions}
+use Rattle.device.specs.declared.Slot.{Slot}
+use Rattle.device.specs.declared.Session.{Session}
+use Rattle.device.specs.declared.Event.{Event}
+use Rattle.device.specs.declared.Event.the-variants.{Unreadable, Install, Remove, Start, Terminate, Request}
+use Rattle.device.specs.declared.Response.{Response}
+use Rattle.device.specs.Device.{isPermission, isDomain, isSuite, isSet, noSuite, sameSuite, has, lowest, slotCount}
+use Rattle.model.specs.Policy.{Fixed}
+use Rattle.device.specs.Cells.{offered}
+use Rattle.model.specs.State.{State, new, withSession, withSlots, carries, find, amend}
+use Rattle.device.specs.Empty.{undecided, free, idle}
 use Rattle.model.specs.Valid.{_⇒_, declared, clear, fits, installable, slotSound, among, slotDecided}
 use Rattle.model.specs.Valid.{slotValid, slotsValid, sessionSound, fitsBeside, sessionDecided, sessionValid, valid}
 use Rattle.model.specs.Events.{carried, readEvent}
-use Rattle.model.specs.Answers.{refused}
+use Rattle.device.specs.Answers.{refused}
 use Rattle.model.specs.Decision.{standing, given, grant, revoke}
-use Rattle.model.specs.Step.{Outcome, answer, running, lacking, installed, runningSlot, judged, sessionDeciding}
+use Rattle.model.specs.Step.{Outcome, answer, inSession, lacking, installed, runningSlot, judged, sessionDeciding}
 use Rattle.model.specs.Step.{slotDeciding, keep, enter, request, step}
 use Rattle.model.specs.Run.{after}
-use Rattle.model.specs.Calls.{eventsFrom}
+use Rattle.model.specs.Calls.{recordsFrom, eventsFrom}
 use Rattle.model.proofs.Tests.{both, all-three, cases, same-sym, every-all}
 use Rattle.model.proofs.Slots.{same-suite, find-suite, length-amend, carries-deciding, find-deciding, carries-put}
 use Rattle.model.proofs.Slots.{find-put}
@@ -62,7 +64,7 @@ clear-decided f r x h =
 
 -- ---- an installed suite is right in itself
 
-sound-deciding : (f : Fixed) (g : Decisions → Decisions) (x : Slot) → same (x .suite) noSuite ≡ false
+sound-deciding : (f : Fixed) (g : Decisions → Decisions) (x : Slot) → sameSuite (x .suite) noSuite ≡ false
     → slotSound f x ≡ true → slotSound f (slotDeciding g x) ≡ true
 unfolding slotSound installable
 sound-deciding f g x n h = rw n (rw (n, slotSound) at h)
@@ -106,23 +108,23 @@ module _ (f : Fixed) (s : State) (v : valid f s ≡ true) where
       let (sound, decided) = both (sessionSound s) (sessionDecided f (s .session) (runningSlot s)) both-right in
       record { count = count; slots = slots; sound = sound; decided = decided }
 
-  pub is-installed : running s ≡ true → carries (s .session .suite) (s .slots) ≡ true
+  pub is-installed : inSession s ≡ true → carries (s .session .suite) (s .slots) ≡ true
   unfolding sessionSound
-  is-installed run = rw (not-true (same (s .session .suite) noSuite) run, sessionSound) at (holds .sound)
+  is-installed run = rw (not-true (sameSuite (s .session .suite) noSuite) run, sessionSound) at (holds .sound)
 
   another-session : (r : Session) → sessionValid f (withSession r s) ≡ true → valid f (withSession r s) ≡ true
   unfolding valid
   another-session r h = rw (holds .count, holds .slots, h)
 
-  -- other slots, in which the running suite has a slot as right as its own
+  -- other slots, in which the inSession suite has a slot as right as its own
   other-slots : (l : List Slot) → length l ≡ length (s .slots) → slotsValid f [] l ≡ true
-      → (running s ≡ true
+      → (inSession s ≡ true
       → (carries (s .session .suite) l ≡ true) × (sessionDecided f (s .session) (find (s .session .suite) l) ≡ true))
       → valid f (withSlots l s) ≡ true
   unfolding valid sessionValid sessionSound
-  other-slots l e h k = rw (e, holds .count, h) (go (same (s .session .suite) noSuite) refl)
+  other-slots l e h k = rw (e, holds .count, h) (go (sameSuite (s .session .suite) noSuite) refl)
     where
-      go : (b : Bool) → same (s .session .suite) noSuite ≡ b
+      go : (b : Bool) → sameSuite (s .session .suite) noSuite ≡ b
           → (cond b (clear (s .session .decisions)) (carries (s .session .suite) l)
           && sessionDecided f (s .session) (find (s .session .suite) l)) ≡ true
       go true t =
@@ -132,13 +134,13 @@ module _ (f : Fixed) (s : State) (v : valid f s ≡ true) where
 
   -- slot y, with nothing decided, in place of the first slot with number i, which does not run
   another-slot : (i : Suite) (y : Slot) → slotSound f y ≡ true → y .decisions ≡ undecided
-      → ((j : Suite) → carries j (s .slots) ≡ true → same j (y .suite) ≡ true → same j noSuite ≡ true)
-      → (running s ≡ true → (same i (s .session .suite) ≡ false) × (same (y .suite) (s .session .suite) ≡ false))
+      → ((j : Suite) → carries j (s .slots) ≡ true → sameSuite j (y .suite) ≡ true → sameSuite j noSuite ≡ true)
+      → (inSession s ≡ true → (sameSuite i (s .session .suite) ≡ false) × (sameSuite (y .suite) (s .session .suite) ≡ false))
       → valid f (withSlots (amend i (λ _. y) (s .slots)) s) ≡ true
   unfolding among
   another-slot i y a d n m =
       other-slots (amend i (λ _. y) (s .slots)) (length-amend i (λ _. y) (s .slots))
-      (put-slot f i y a (slot-undecided f y d) [] (s .slots) (holds .slots) (or-true (same (y .suite) noSuite)) n)
+      (put-slot f i y a (slot-undecided f y d) [] (s .slots) (holds .slots) (or-true (sameSuite (y .suite) noSuite)) n)
       (λ t. (
         carries-put i (s .session .suite) y (m t .0) (m t .1) (s .slots) ∙ is-installed t,
         rw (find-put i (s .session .suite) y (m t .0) (m t .1) (s .slots)) (holds .decided),
@@ -147,7 +149,7 @@ module _ (f : Fixed) (s : State) (v : valid f s ≡ true) where
   started : (i : Suite) → carries i (s .slots) ≡ true
       → sessionValid f (withSession (record { suite = i; decisions = undecided }) s) ≡ true
   unfolding sessionValid sessionSound
-  started i h = rw (session-undecided f i (find i (s .slots))) (go (same i noSuite))
+  started i h = rw (session-undecided f i (find i (s .slots))) (go (sameSuite i noSuite))
     where
       go : (b : Bool) → (cond b true (carries i (s .slots)) && true) ≡ true
       go true = refl
@@ -157,15 +159,15 @@ module _ (f : Fixed) (s : State) (v : valid f s ≡ true) where
   unfolding sessionValid sessionSound
   stopped = session-undecided f noSuite (find noSuite (s .slots))
 
-  goes-on : running s ≡ true → (g : Decisions → Decisions)
+  goes-on : inSession s ≡ true → (g : Decisions → Decisions)
       → sessionDecided f (sessionDeciding g (s .session)) (runningSlot s) ≡ true
       → sessionValid f (withSession (sessionDeciding g (s .session)) s) ≡ true
   unfolding sessionValid sessionSound
-  goes-on run g h = rw (not-true (same (s .session .suite) noSuite) run, is-installed run, h)
+  goes-on run g h = rw (not-true (sameSuite (s .session .suite) noSuite) run, is-installed run, h)
 
   -- ---- a request
 
-  module _ (run : running s ≡ true) (p : Permission) (u : UserAnswer) (is : isPermission p ≡ true)
+  module _ (run : inSession s ≡ true) (p : Permission) (u : UserAnswer) (is : isPermission p ≡ true)
       (accepted : refused (judged f (s .session) (runningSlot s) p u) ≡ false) (answered : given u ≡ true) where
     abbrev me : Slot
     me = runningSlot s
@@ -187,7 +189,7 @@ module _ (f : Fixed) (s : State) (v : valid f s ≡ true) where
         (goes-on run g (session-enters f (s .session) me p g undecided-yet e (holds .decided)))
     kept-as blanket g e =
         let there = is-installed run in
-        let number : same (me .suite) noSuite ≡ false = rw (find-suite (s .session .suite) (s .slots) there) (not-true _ run) in
+        let number : sameSuite (me .suite) noSuite ≡ false = rw (find-suite (s .session .suite) (s .slots) there) (not-true _ run) in
         other-slots (amend (s .session .suite) (slotDeciding g) (s .slots))
         (length-amend (s .session .suite) (slotDeciding g) (s .slots))
         (decide-slot f (s .session .suite) g [] (s .slots) (holds .slots)
@@ -198,7 +200,7 @@ module _ (f : Fixed) (s : State) (v : valid f s ≡ true) where
               (slot-enters-beside f (s .session) me p g undecided-yet e (holds .decided)),
         ))
 
-  entered : (run : running s ≡ true) (p : Permission) (u : UserAnswer) → isPermission p ≡ true
+  entered : (run : inSession s ≡ true) (p : Permission) (u : UserAnswer) → isPermission p ≡ true
       → refused (judged f (s .session) (runningSlot s) p u) ≡ false → valid f (enter u p s) ≡ true
   entered run p None is h = v
   entered run p (Allow m) is h =
@@ -232,20 +234,20 @@ module _ (f : Fixed) (s : State) (v : valid f s ≡ true) where
       })))
   event-kept (Remove i) h =
       cases Valid (not (carries i (s .slots))) (λ _. stays)
-      (λ there. cases Valid (same (s .session .suite) i) (λ _. stays)
+      (λ there. cases Valid (sameSuite (s .session .suite) i) (λ _. stays)
       (λ other. record {
         ok = another-slot i free (unfold slotSound in refl) refl (λ j t e. e)
             (λ t. (same-sym (s .session .suite) i other, same-sym (s .session .suite) noSuite (not-true _ t)));
       }))
   event-kept (Start i) h =
-      cases Valid (running s) (λ _. stays)
+      cases Valid (inSession s) (λ _. stays)
       (λ idle. cases Valid (not (carries i (s .slots))) (λ _. stays)
       (λ there. record { ok = another-session (record { suite = i; decisions = undecided }) (started i (not-false _ there)) }))
   event-kept Terminate h =
-      cases Valid (not (running s)) (λ _. stays)
+      cases Valid (not (inSession s)) (λ _. stays)
       (λ run. record { ok = another-session idle stopped })
   event-kept (Request p u) h =
-      cases Valid (not (running s)) (λ _. stays)
+      cases Valid (not (inSession s)) (λ _. stays)
       (λ run. cases Valid (refused (judged f (s .session) (runningSlot s) p u)) (λ _. stays)
       (λ accepted. record { ok = entered (not-false _ run) p u h accepted }))
 
@@ -259,7 +261,7 @@ unfolding step
 record-kept f s v b = read-event (λ e. valid f (step f s e .state) ≡ true) b v (kept f s v)
 
 pub run-kept : (f : Fixed) (s : State) → valid f s ≡ true → (b : List ℕ) (n i : ℕ) → valid f (after f s (eventsFrom b n i)) ≡ true
-unfolding after eventsFrom
+unfolding after recordsFrom
 run-kept f s v b zero i = v
 run-kept f s v b (suc n) i = run-kept f _ (record-kept f s v _) b n (suc i)
 

@@ -1,5 +1,4 @@
 pub mod Tests
-pub mod Modes
 pub mod Worked
 pub mod Listing
 pub mod Cases
@@ -7,7 +6,7 @@ pub mod Edges
 pub mod Slots
 pub mod ValidSlots
 pub mod Entering
-pub mod Right
+pub mod Bytes
 pub mod RoundTrip
 pub mod Kept
 pub mod Runs

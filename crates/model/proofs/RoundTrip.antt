@@ -8,38 +8,35 @@ use lib.Dec.{eqb, ltb}
 use borrow.Author.Tests.{eqb-true, eq-eqb, ltb-true}
 use Rattle.words.specs.Numbers.{leAt, bytesOf}
 use Rattle.words.proofs.Numbers.{leAt-bytes}
-use Rattle.model.specs.declared.Suite.{Suite}
-use Rattle.model.specs.declared.Mode.the-variants.{Oneshot, Session, Blanket}
-use Rattle.model.specs.declared.UserAnswer.{UserAnswer}
-use Rattle.model.specs.declared.UserAnswer.the-variants.{None, Allow, Deny}
-use Rattle.model.specs.declared.Event.{Event}
-use Rattle.model.specs.declared.Event.the-variants.{Unreadable, Install, Remove, Start, Terminate, Request}
-use Rattle.model.specs.Device.{isSuite, isDomain, isSet}
-use Rattle.model.specs.Policy.{highest}
-use Rattle.model.specs.Events.{answerNo, answerOf, layout, writeEvent, carried, eventIn, equal, readEvent}
+use Rattle.device.specs.declared.Suite.{Suite}
+use Rattle.device.specs.declared.Event.{Event}
+use Rattle.device.specs.declared.Event.the-variants.{Unreadable, Install, Remove, Start, Terminate, Request}
+use Rattle.device.proofs.Modes.{answer-back}
+use Rattle.device.specs.Device.{isSuite, isDomain, isSet}
+use Rattle.model.specs.Events.{fieldsAt, fieldBytes, numbers, eventOf, writeEvent, carried, eventIn, sameBytes, readEvent}
 use Rattle.model.proofs.Tests.{both, all-three}
 
 -- ---- lists
 
-equal-same : (l : List ℕ) → equal l l ≡ true
-unfolding equal
-equal-same [] = refl
-equal-same (x ∷ xs) = rw (eq-eqb x x refl) (equal-same xs)
+bytes-same : (l : List ℕ) → sameBytes l l ≡ true
+unfolding sameBytes
+bytes-same [] = refl
+bytes-same (x ∷ xs) = rw (eq-eqb x x refl) (bytes-same xs)
 
-pub same-equal : (l m : List ℕ) → equal l m ≡ true → l ≡ m
-unfolding equal
-same-equal [] [] h = refl
-same-equal [] (y ∷ m) h = absurd (false≢true h)
-same-equal (x ∷ l) [] h = absurd (false≢true h)
-same-equal (x ∷ l) (y ∷ m) h =
-    let (here, more) = both (eqb x y) (equal l m) h in
-    ap₂ _∷_ (eqb-true x y here) (same-equal l m more)
+pub same-bytes : (l m : List ℕ) → sameBytes l m ≡ true → l ≡ m
+unfolding sameBytes
+same-bytes [] [] h = refl
+same-bytes [] (y ∷ m) h = absurd (false≢true h)
+same-bytes (x ∷ l) [] h = absurd (false≢true h)
+same-bytes (x ∷ l) (y ∷ m) h =
+    let (here, more) = both (eqb x y) (sameBytes l m) h in
+    ap₂ _∷_ (eqb-true x y here) (same-bytes l m more)
 
 -- ---- a record that is read is an event that a record carries, or none
 
 pub read-event {ℓ} : (P : Event → Type ℓ) (b : List ℕ) → P Unreadable → ((e : Event) → carried e ≡ true → P e) → P (readEvent b)
 unfolding readEvent
-read-event P b none some = go (carried (eventIn b)) (equal (writeEvent (eventIn b)) b) refl
+read-event P b none some = go (carried (eventIn b)) (sameBytes (writeEvent (eventIn b)) b) refl
   where
     go : (c t : Bool) → carried (eventIn b) ≡ c → P (cond (c && t) (eventIn b) Unreadable)
     go true true h = some (eventIn b) h
@@ -50,45 +47,35 @@ read-event P b none some = go (carried (eventIn b)) (equal (writeEvent (eventIn 
 
 pub written-back : (b : List ℕ) → carried (readEvent b) ≡ true → writeEvent (readEvent b) ≡ b
 unfolding readEvent
-written-back b = go (carried (eventIn b)) (equal (writeEvent (eventIn b)) b) refl
+written-back b = go (carried (eventIn b)) (sameBytes (writeEvent (eventIn b)) b) refl
   where
-    go : (c t : Bool) → equal (writeEvent (eventIn b)) b ≡ t → carried (cond (c && t) (eventIn b) Unreadable) ≡ true
+    go : (c t : Bool) → sameBytes (writeEvent (eventIn b)) b ≡ t → carried (cond (c && t) (eventIn b) Unreadable) ≡ true
         → writeEvent (cond (c && t) (eventIn b) Unreadable) ≡ b
-    go true true e h = same-equal (writeEvent (eventIn b)) b e
+    go true true e h = same-bytes (writeEvent (eventIn b)) b e
     go true false e h = absurd (false≢true h)
     go false t e h = absurd (false≢true h)
 
 -- ---- an event that is written and read back
-
-answer-back : (u : UserAnswer) → answerOf (answerNo u) ≡ u
-unfolding answerOf highest
-answer-back None = refl
-answer-back (Allow Oneshot) = refl
-answer-back (Allow Session) = refl
-answer-back (Allow Blanket) = refl
-answer-back (Deny Oneshot) = refl
-answer-back (Deny Session) = refl
-answer-back (Deny Blanket) = refl
 
 pub number : (i : Suite) → isSuite i ≡ true → i .0 < 256 ^ 2
 number i h = ltb-true (i .0) 65536 (both (ltb 0 (i .0)) (ltb (i .0) 65536) h .1)
 
 -- the fields of a record
 module _ (k d i p u r o : ℕ) where
-  suite-back : i < 256 ^ 2 → leAt 2 (layout k d i p u r o) 2 ≡ i
-  unfolding layout
+  suite-back : i < 256 ^ 2 → leAt 2 (fieldBytes (numbers k d i p u r o)) 2 ≡ i
+  unfolding fieldBytes
   suite-back h = leAt-bytes 2 (k ∷ d ∷ []) _ i ∙ mod-eq-of-lt h
 
-  required-back : r < 256 ^ 8 → leAt 8 (layout k d i p u r o) 8 ≡ r
-  unfolding layout bytesOf
+  required-back : r < 256 ^ 8 → leAt 8 (fieldBytes (numbers k d i p u r o)) 8 ≡ r
+  unfolding fieldBytes bytesOf
   required-back h = leAt-bytes 8 (k ∷ d ∷ (bytesOf 2 i ++ (p ∷ u ∷ bytesOf 2 0))) _ r ∙ mod-eq-of-lt h
 
-  optional-back : o < 256 ^ 8 → leAt 8 (layout k d i p u r o) 16 ≡ o
-  unfolding layout bytesOf
+  optional-back : o < 256 ^ 8 → leAt 8 (fieldBytes (numbers k d i p u r o)) 16 ≡ o
+  unfolding fieldBytes bytesOf
   optional-back h = leAt-bytes 8 (k ∷ d ∷ (bytesOf 2 i ++ (p ∷ u ∷ (bytesOf 2 0 ++ bytesOf 8 r)))) [] o ∙ mod-eq-of-lt h
 
 event-back : (e : Event) → carried e ≡ true → eventIn (writeEvent e) ≡ e
-unfolding eventIn layout bytesOf
+unfolding eventIn eventOf fieldsAt fieldBytes bytesOf
 event-back Unreadable h = absurd (false≢true h)
 event-back (Install i x d) h =
     let (is, r, rest) = all-three (isSuite i) (isSet (x .required)) _ h in
@@ -104,4 +91,4 @@ event-back (Request p u) h = ap (Request p) (answer-back u)
 
 pub read-back : (e : Event) → carried e ≡ true → readEvent (writeEvent e) ≡ e
 unfolding readEvent
-read-back e h = rw (event-back e h, h, equal-same (writeEvent e))
+read-back e h = rw (event-back e h, h, bytes-same (writeEvent e))

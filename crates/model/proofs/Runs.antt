@@ -3,31 +3,31 @@
 use mathlib.Core.Path.{_≡_, refl, ap}
 use mathlib.Core.Bool.{true, not, false≢true, true≢false}
 use mathlib.Core.List.{List, [], _∷_, _++_}
-use Rattle.model.specs.declared.Event.{Event}
-use Rattle.model.specs.declared.Event.the-variants.{Unreadable, Install, Remove, Start, Terminate, Request}
-use Rattle.model.specs.declared.Response.{Response}
-use Rattle.model.specs.Device.{isPermission, noSuite, same}
+use Rattle.device.specs.declared.Event.{Event}
+use Rattle.device.specs.declared.Event.the-variants.{Unreadable, Install, Remove, Start, Terminate, Request}
+use Rattle.device.specs.declared.Response.{Response}
+use Rattle.device.specs.Device.{isPermission, noSuite, sameSuite}
 use Rattle.model.specs.Policy.{Fixed}
 use Rattle.model.specs.State.{State, carries}
-use Rattle.model.specs.Answers.{refused}
-use Rattle.model.specs.Step.{Outcome, answer, running, lacking, runningSlot, judged, request, step}
+use Rattle.device.specs.Answers.{refused}
+use Rattle.model.specs.Step.{Outcome, answer, inSession, lacking, runningSlot, judged, request, step}
 use Rattle.model.specs.Run.{after, responses}
 use Rattle.model.proofs.Tests.{cases}
 
 -- ---- refusals
 
 record Leaves (s : State) (o : Outcome) : Type 0 where
-  same : refused (o .response) ≡ true → o .state ≡ s
+  kept : refused (o .response) ≡ true → o .state ≡ s
 
 pub refused-leaves : (f : Fixed) (s : State) (e : Event) → refused (step f s e .response) ≡ true → step f s e .state ≡ s
 unfolding step request
-refused-leaves f s e = event e .same
+refused-leaves f s e = event e .kept
   where
     as-it-was : {r : Response} → Leaves s (answer r s)
-    as-it-was = record { same = λ _. refl }
+    as-it-was = record { kept = λ _. refl }
 
     done : {t : State} → Leaves s (answer (record { number = 0; detail = 0 }) t)
-    done = record { same = λ h. absurd (false≢true h) }
+    done = record { kept = λ h. absurd (false≢true h) }
 
     event : (e : Event) → Leaves s (step f s e)
     event Unreadable = as-it-was
@@ -37,15 +37,15 @@ refused-leaves f s e = event e .same
         (λ _. cases (Leaves s) (not (carries noSuite (s .slots))) (λ _. as-it-was) (λ _. done)))
     event (Remove i) =
         cases (Leaves s) (not (carries i (s .slots))) (λ _. as-it-was)
-        (λ _. cases (Leaves s) (same (s .session .suite) i) (λ _. as-it-was) (λ _. done))
+        (λ _. cases (Leaves s) (sameSuite (s .session .suite) i) (λ _. as-it-was) (λ _. done))
     event (Start i) =
-        cases (Leaves s) (running s) (λ _. as-it-was)
+        cases (Leaves s) (inSession s) (λ _. as-it-was)
         (λ _. cases (Leaves s) (not (carries i (s .slots))) (λ _. as-it-was) (λ _. done))
-    event Terminate = cases (Leaves s) (not (running s)) (λ _. as-it-was) (λ _. done)
+    event Terminate = cases (Leaves s) (not (inSession s)) (λ _. as-it-was) (λ _. done)
     event (Request p u) =
         let r = judged f (s .session) (runningSlot s) p u in
-        cases (Leaves s) (not (running s)) (λ _. as-it-was)
-        (λ _. cases (Leaves s) (refused r) (λ _. as-it-was) (λ n. record { same = λ h. absurd (true≢false (rw h at n)) }))
+        cases (Leaves s) (not (inSession s)) (λ _. as-it-was)
+        (λ _. cases (Leaves s) (refused r) (λ _. as-it-was) (λ n. record { kept = λ h. absurd (true≢false (rw h at n)) }))
 
 -- ---- some events and then others
 

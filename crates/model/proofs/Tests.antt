@@ -6,9 +6,9 @@ use mathlib.Core.Bool.{Bool, true, false, _&&_, _||_, cond, false≢true, true�
 use lib.Dec.{eqb}
 use borrow.Author.Tests.{eqb-true, eqb-false, ne-eqb}
 use Rattle.words.proofs.Search.{allFrom-all, allFrom-at}
-use Rattle.model.specs.declared.Suite.{Suite}
-use Rattle.model.specs.declared.Permission.{Permission}
-use Rattle.model.specs.Device.{same, every}
+use Rattle.device.specs.declared.Suite.{Suite}
+use Rattle.device.specs.declared.Permission.{Permission}
+use Rattle.device.specs.Device.{sameSuite, every}
 
 pub both : (a b : Bool) → (a && b) ≡ true → (a ≡ true) × (b ≡ true)
 both true b h = (refl, h)
@@ -28,7 +28,7 @@ pub cases {ℓ} : {A : Type 0} (P : A → Type ℓ) (b : Bool) {x y : A} → (b 
 cases P true px py = px refl
 cases P false px py = py refl
 
-pub same-sym : (i j : Suite) → same i j ≡ false → same j i ≡ false
+pub same-sym : (i j : Suite) → sameSuite i j ≡ false → sameSuite j i ≡ false
 same-sym i j n = ne-eqb (j .0) (i .0) (λ e. eqb-false (i .0) (j .0) n (sym e))
 
 pub every-all : (t : Permission → Bool) → ((p : Permission) → p .0 < 64 → t p ≡ true) → every t ≡ true

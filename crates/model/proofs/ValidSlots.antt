@@ -6,12 +6,13 @@ use mathlib.Core.Bool.{Bool, true, false, not, _||_, cond, false≢true, true≢
 use mathlib.Core.List.{List, [], _∷_}
 use lib.ListN.{length, getD}
 use borrow.Author.Tests.{eq-eqb}
-use Rattle.model.specs.declared.Suite.{Suite}
-use Rattle.model.specs.declared.Decisions.{Decisions}
-use Rattle.model.specs.declared.Slot.{Slot}
-use Rattle.model.specs.Device.{noSuite, same}
+use Rattle.device.specs.declared.Suite.{Suite}
+use Rattle.device.specs.declared.Decisions.{Decisions}
+use Rattle.device.specs.declared.Slot.{Slot}
+use Rattle.device.specs.Device.{noSuite, sameSuite}
 use Rattle.model.specs.Policy.{Fixed}
-use Rattle.model.specs.State.{free, carries, find, amend, place}
+use Rattle.device.specs.Empty.{free}
+use Rattle.model.specs.State.{carries, find, amend, place}
 use Rattle.model.specs.Valid.{slotSound, among, ownNumber, slotDecided}
 use Rattle.model.specs.Valid.{slotValid, slotsValid}
 use Rattle.model.specs.Step.{slotDeciding}
@@ -62,7 +63,7 @@ module _ (f : Fixed) where
   find-sound i lower [] h = refl
   find-sound i lower (x ∷ xs) h =
       let k = taken-apart lower x xs h in
-      cases (λ y. slotSound f y ≡ true) (same (x .suite) i) (λ _. k .sound) (λ _. find-sound i (x .suite ∷ lower) xs (k .more))
+      cases (λ y. slotSound f y ≡ true) (sameSuite (x .suite) i) (λ _. k .sound) (λ _. find-sound i (x .suite ∷ lower) xs (k .more))
 
   -- other numbers in the lower slots
   other-lower : (lower lower' : List Suite) (l : List Slot)
@@ -77,7 +78,7 @@ module _ (f : Fixed) where
         own = h (x .suite) (rw (eq-eqb (x .suite .0) (x .suite .0) refl)) (k .own);
         decided = k .decided;
         more = other-lower (x .suite ∷ lower) (x .suite ∷ lower') xs
-            (λ j t. own-more (same j noSuite) (same j (x .suite)) (among j lower) (among j lower') (h j (rw (t, or-true))))
+            (λ j t. own-more (sameSuite j noSuite) (sameSuite j (x .suite)) (among j lower) (among j lower') (h j (rw (t, or-true))))
             (k .more);
       })
 
@@ -90,7 +91,7 @@ module _ (f : Fixed) where
       → slotsValid f lower l ≡ true → Keeps g (find i l) → slotsValid f lower (amend i (slotDeciding g) l) ≡ true
   unfolding amend find
   decide-slot i g lower [] v h = v
-  decide-slot i g lower (x ∷ xs) v h = go (same (x .suite) i) h (decide-slot i g (x .suite ∷ lower) xs)
+  decide-slot i g lower (x ∷ xs) v h = go (sameSuite (x .suite) i) h (decide-slot i g (x .suite ∷ lower) xs)
     where
       k : SlotIs f lower x xs
       k = taken-apart lower x xs v
@@ -109,18 +110,18 @@ module _ (f : Fixed) where
   -- another slot, whose number no slot has
   pub put-slot : (i : Suite) (y : Slot) → slotSound f y ≡ true → slotDecided f y ≡ true → (lower : List Suite) (l : List Slot)
       → slotsValid f lower l ≡ true → ownNumber lower (y .suite) ≡ true
-      → ((j : Suite) → carries j l ≡ true → same j (y .suite) ≡ true → same j noSuite ≡ true)
+      → ((j : Suite) → carries j l ≡ true → sameSuite j (y .suite) ≡ true → sameSuite j noSuite ≡ true)
       → slotsValid f lower (amend i (λ _. y) l) ≡ true
   unfolding amend carries among
   put-slot i y a b lower [] v n m = v
   put-slot i y a b lower (x ∷ xs) v n m =
-      elim (same (x .suite) i) as (λ t. slotsValid f lower (cond t (y ∷ xs) (x ∷ amend i (λ _. y) xs)) ≡ true) [
+      elim (sameSuite (x .suite) i) as (λ t. slotsValid f lower (cond t (y ∷ xs) (x ∷ amend i (λ _. y) xs)) ≡ true) [
         | true ↦ put-together lower y xs (record {
           sound = a;
           own = n;
           decided = b;
           more = other-lower (x .suite ∷ lower) (y .suite ∷ lower) xs
-              (λ j t. own-swap (same j noSuite) (same j (x .suite)) (same j (y .suite)) (among j lower) (m j (rw (t, or-true))))
+              (λ j t. own-swap (sameSuite j noSuite) (sameSuite j (x .suite)) (sameSuite j (y .suite)) (among j lower) (m j (rw (t, or-true))))
               (k .more);
         })
         | false ↦ put-together lower x (amend i (λ _. y) xs) (record {
@@ -128,7 +129,7 @@ module _ (f : Fixed) where
           own = k .own;
           decided = k .decided;
           more = put-slot i y a b (x .suite ∷ lower) xs (k .more)
-              (own-new (same (y .suite) noSuite) (same (y .suite) (x .suite)) (among (y .suite) lower) zero-too n)
+              (own-new (sameSuite (y .suite) noSuite) (sameSuite (y .suite) (x .suite)) (among (y .suite) lower) zero-too n)
               (λ j t. m j (rw (t, or-true)));
         })
       ]
@@ -136,7 +137,7 @@ module _ (f : Fixed) where
       k : SlotIs f lower x xs
       k = taken-apart lower x xs v
 
-      zero-too : same (y .suite) (x .suite) ≡ true → same (y .suite) noSuite ≡ true
+      zero-too : sameSuite (y .suite) (x .suite) ≡ true → sameSuite (y .suite) noSuite ≡ true
       zero-too h =
           let e = same-suite (y .suite) (x .suite) h in
           rw e (m (x .suite) (rw (eq-eqb (x .suite .0) (x .suite .0) refl)) (rw e (eq-eqb (x .suite .0) (x .suite .0) refl)))
@@ -150,25 +151,25 @@ carries-at (x ∷ xs) zero h = rw (eq-eqb (x .suite .0) (x .suite .0) refl)
 carries-at (x ∷ xs) (suc k) h = rw (carries-at xs k (omega arith), or-true)
 
 -- a number of a lower slot stands in no slot above
-pub not-again : (f : Fixed) (lower : List Suite) (l : List Slot) (i : Suite) → slotsValid f lower l ≡ true → same i noSuite ≡ false
+pub not-again : (f : Fixed) (lower : List Suite) (l : List Slot) (i : Suite) → slotsValid f lower l ≡ true → sameSuite i noSuite ≡ false
     → among i lower ≡ true → carries i l ≡ false
 unfolding carries among
 not-again f lower [] i v n m = refl
-not-again f lower (x ∷ xs) i v n m = go (same (x .suite) i) refl (not-again f (x .suite ∷ lower) xs i (k .more) n (rw (m, or-true)))
+not-again f lower (x ∷ xs) i v n m = go (sameSuite (x .suite) i) refl (not-again f (x .suite ∷ lower) xs i (k .more) n (rw (m, or-true)))
   where
     k : SlotIs f lower x xs
     k = taken-apart f lower x xs v
 
-    go : (b : Bool) → same (x .suite) i ≡ b → carries i xs ≡ false → (b || carries i xs) ≡ false
+    go : (b : Bool) → sameSuite (x .suite) i ≡ b → carries i xs ≡ false → (b || carries i xs) ≡ false
     go true e r = absurd (false≢true (rw (same-suite (x .suite) i e, n, m) at (k .own)))
     go false e r = r
 
 pub one-slot : (f : Fixed) (lower : List Suite) (l : List Slot) (k : ℕ) → slotsValid f lower l ≡ true → k < length l
-    → same (getD l k free .suite) noSuite ≡ false → place (getD l k free .suite) l ≡ k
+    → sameSuite (getD l k free .suite) noSuite ≡ false → place (getD l k free .suite) l ≡ k
 unfolding place among
 one-slot f lower [] k v h n = absurd (omega arith)
 one-slot f lower (x ∷ xs) zero v h n = rw (eq-eqb (x .suite .0) (x .suite .0) refl)
-one-slot f lower (x ∷ xs) (suc k) v h n = go (same (x .suite) i) refl (one-slot f (x .suite ∷ lower) xs k more (omega arith) n)
+one-slot f lower (x ∷ xs) (suc k) v h n = go (sameSuite (x .suite) i) refl (one-slot f (x .suite ∷ lower) xs k more (omega arith) n)
   where
     i : Suite
     i = getD xs k free .suite
@@ -176,7 +177,7 @@ one-slot f lower (x ∷ xs) (suc k) v h n = go (same (x .suite) i) refl (one-slo
     more : slotsValid f (x .suite ∷ lower) xs ≡ true
     more = taken-apart f lower x xs v .more
 
-    go : (b : Bool) → same (x .suite) i ≡ b → place i xs ≡ k → cond b 0 (suc (place i xs)) ≡ suc k
+    go : (b : Bool) → sameSuite (x .suite) i ≡ b → place i xs ≡ k → cond b 0 (suc (place i xs)) ≡ suc k
     go true e r =
         let again = not-again f (x .suite ∷ lower) xs i more n (rw (same-suite (x .suite) i e, eq-eqb (i .0) (i .0) refl)) in
         absurd (true≢false (sym (carries-at xs k (omega arith)) ∙ again))

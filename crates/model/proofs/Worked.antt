@@ -5,21 +5,23 @@ use lib.ListN.{replicate}
 use Rattle.words.specs.Numbers.{leAt, bytesOf}
 use Rattle.words.specs.Sets.{bit, member, insert}
 use Rattle.words.specs.Search.{firstFrom, allFrom}
-use Rattle.model.specs.declared.Event.{Event}
-use Rattle.model.specs.declared.Event.the-variants.{Install, Remove, Start, Request}
-use Rattle.model.specs.declared.UserAnswer.{UserAnswer}
-use Rattle.model.specs.declared.Response.{Response}
-use Rattle.model.specs.Device.{every, lowest}
-use Rattle.model.specs.Policy.{fixedBy, policyRight, highest}
+use Rattle.device.specs.declared.Event.{Event}
+use Rattle.device.specs.declared.Event.the-variants.{Install, Remove, Start, Request}
+use Rattle.device.specs.declared.UserAnswer.{UserAnswer}
+use Rattle.device.specs.declared.Response.{Response}
+use Rattle.device.specs.Device.{modeOf, every, lowest}
+use Rattle.model.specs.Policy.{fixedBy, policyValid}
+use Rattle.device.specs.Cells.{highest}
 use Rattle.model.specs.State.{State, new, carries, find, amend, place, sessionAt, sessionZeros, sessionBytes, slotAt, slotZeros, slotBytes}
 use Rattle.model.specs.State.{slotsFrom, slotsBytes, readState, writeState}
 use Rattle.model.specs.Valid.{declared, installable, slotSound, among, slotDecided, slotValid, slotsValid, sessionSound, sessionDecided}
-use Rattle.model.specs.Valid.{sessionValid, valid, slotsRight, stateRight}
-use Rattle.model.specs.Events.{answerOf, layout, eventIn, equal, readEvent}
+use Rattle.model.specs.Valid.{sessionValid, valid, slotsZeros, zeroBytes, stateValid}
+use Rattle.device.specs.UserAnswers.{answerOf}
+use Rattle.model.specs.Events.{fieldsAt, fieldBytes, eventOf, eventIn, sameBytes, readEvent}
 use Rattle.model.specs.Decision.{standing, decision}
 use Rattle.model.specs.Step.{lacking, judged, request, step}
 use Rattle.model.specs.Run.{after, responses}
-use Rattle.model.specs.Calls.{newCall, writeCall, checkCall, stepCall, eventsFrom, outputOf, runCall, findCall, partCall}
+use Rattle.model.specs.Calls.{newCall, writeCall, checkCall, stepCall, recordsFrom, outputOf, runCall, findCall, partCall}
 
 abbrev pub zeros : ℕ → List ℕ
 zeros n = replicate n 0
@@ -52,5 +54,5 @@ left es = after (fixedBy policy) new es
 
 -- a claim that says `unfolding computed` computes with every definition
 unfoldable pub computed : Unit {0}
-unfolding leAt bytesOf bit member insert firstFrom allFrom every lowest fixedBy policyRight highest carries find amend place sessionAt sessionZeros sessionBytes slotAt slotZeros slotBytes slotsFrom slotsBytes readState writeState declared installable slotSound among slotDecided slotValid slotsValid sessionSound sessionDecided sessionValid valid slotsRight stateRight answerOf layout eventIn equal readEvent standing decision lacking judged request step after responses newCall writeCall checkCall stepCall eventsFrom outputOf runCall findCall partCall
+unfolding leAt bytesOf bit member insert firstFrom allFrom every lowest fixedBy policyValid highest carries find amend place sessionAt sessionZeros sessionBytes slotAt slotZeros slotBytes slotsFrom slotsBytes readState writeState declared installable slotSound among slotDecided slotValid slotsValid sessionSound sessionDecided sessionValid valid slotsZeros zeroBytes stateValid modeOf answerOf fieldsAt fieldBytes eventOf eventIn sameBytes readEvent standing decision lacking judged request step after responses newCall writeCall checkCall stepCall recordsFrom outputOf runCall findCall partCall
 computed = tt

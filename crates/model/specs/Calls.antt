@@ -1,20 +1,20 @@
 -- 01, Calls offered: from the lists of the lent bytes to the answer, the count and the lists afterwards. A refusal leaves every
 -- list as it was.
 use Prim.Native.Nat.{ℕ, zero, suc, _*_, _/_, _%_}
-use mathlib.Core.Bool.{not, _&&_, cond}
-use mathlib.Core.List.{List, [], _∷_}
+use mathlib.Core.Bool.{Bool, not, _&&_, cond}
+use mathlib.Core.List.{List, [], _∷_, map}
 use lib.ListN.{length, take, drop, replicate}
 use lib.Dec.{eqb}
-use Rattle.model.specs.declared.Suite.{Suite}
-use Rattle.model.specs.declared.Event.{Event}
-use Rattle.model.specs.declared.Event.the-variants.{Unreadable, Install, Remove, Start, Terminate, Request}
-use Rattle.model.specs.declared.Response.{Response}
-use Rattle.model.specs.Device.{isSuite}
-use Rattle.model.specs.Policy.{fixedBy, policyRight}
+use Rattle.device.specs.declared.Suite.{Suite}
+use Rattle.device.specs.declared.Event.{Event}
+use Rattle.device.specs.declared.Event.the-variants.{Unreadable, Install, Remove, Start, Terminate, Request}
+use Rattle.device.specs.declared.Response.{Response}
+use Rattle.device.specs.Device.{isSuite}
+use Rattle.device.specs.Answers.{refused, DONE, BAD-POLICY, BAD-STATE, BAD-EVENT, NOT-INSTALLED, BAD-LENGTH}
+use Rattle.model.specs.Policy.{fixedBy, policyValid}
 use Rattle.model.specs.State.{carries, place, readState, writeState, recordSize, stateSize}
-use Rattle.model.specs.Valid.{stateRight}
+use Rattle.model.specs.Valid.{stateValid}
 use Rattle.model.specs.Events.{writeEvent, readEvent, carried, eventSize}
-use Rattle.model.specs.Answers.{refused, DONE, BAD-POLICY, BAD-STATE, BAD-EVENT, NOT-INSTALLED, BAD-LENGTH}
 use Rattle.model.specs.Step.{step}
 use Rattle.model.specs.Run.{after, responses}
 
@@ -24,43 +24,62 @@ pub record Called : Type 0 where
   pub bytes : List ℕ
 
 abbrev pub leaving : List ℕ → Response → Called
-leaving b r = record { response = r; bytes = b }
+leaving bytes response = record { response = response; bytes = bytes }
 
--- "make a new state (other than 1,320 bytes: 17)"
+-- ---- a new state: 17 for another size
+
 unfoldable pub newCall : (state : List ℕ) → Called
-newCall b = cond (eqb (length b) stateSize) (leaving (replicate stateSize 0) DONE) (leaving b BAD-STATE)
+newCall state =
+    cond (eqb (length state) stateSize) (leaving (replicate stateSize 0) DONE) (leaving state BAD-STATE)
 
--- "read an event": `readEvent`; its answer
+-- ---- an event read: 18, else the event
+
 abbrev pub readAnswer : Event → Response
 readAnswer Unreadable = BAD-EVENT
-readAnswer (Install i x d) = DONE
-readAnswer (Remove i) = DONE
-readAnswer (Start i) = DONE
+readAnswer (Install suite descriptor domain) = DONE
+readAnswer (Remove suite) = DONE
+readAnswer (Start suite) = DONE
 readAnswer Terminate = DONE
-readAnswer (Request p u) = DONE
+readAnswer (Request permission answer) = DONE
 
--- "write one into 24 lent bytes (18 first, then 30 for another size)"
+-- the answer, and the value
+pub record Read : Type 0 where
+  pub response : Response
+  pub event : Event
+
+abbrev pub reading : Event → Read
+reading event = record { response = readAnswer event; event = event }
+
+abbrev pub readCall : (record-bytes : List ℕ) → Read
+readCall bytes = reading (readEvent bytes)
+
+-- ---- an event written: 18 for a value that no record carries, then 30 for another size
+
 unfoldable pub writeCall : Event → (lent : List ℕ) → Called
-writeCall e b =
-    cond (not (carried e)) (leaving b BAD-EVENT)
-    (cond (not (eqb (length b) eventSize)) (leaving b BAD-LENGTH)
-    (leaving (writeEvent e) DONE))
+writeCall event lent =
+    cond (not (carried event)) (leaving lent BAD-EVENT)
+    (cond (not (eqb (length lent) eventSize)) (leaving lent BAD-LENGTH)
+    (leaving (writeEvent event) DONE))
 
--- "check policy and state": 16, 17
+-- ---- policy and state checked: 16, 17
+
 unfoldable pub checkCall : (policy state : List ℕ) → Response
-checkCall policy b =
-    cond (not (policyRight policy)) BAD-POLICY
-    (cond (not (stateRight (fixedBy policy) b)) BAD-STATE
+checkCall policy state =
+    cond (not (policyValid policy)) BAD-POLICY
+    (cond (not (stateValid (fixedBy policy) state)) BAD-STATE
     DONE)
 
--- "step, on one event record": 16, 17, 18, then by event
-unfoldable pub stepCall : (policy state event : List ℕ) → Called
-stepCall policy b e =
-    let r = checkCall policy b in
-    let o = step (fixedBy policy) (readState b) (readEvent e) in
-    cond (refused r) (leaving b r) (leaving (writeState (o .state)) (o .response))
+-- ---- one event record: 16, 17, 18, then by event
 
--- the answer and the count, and the lent bytes afterwards
+unfoldable pub stepCall : (policy state event : List ℕ) → Called
+stepCall policy state event =
+    let checked = checkCall policy state in
+    let outcome = step (fixedBy policy) (readState state) (readEvent event) in
+    cond (refused checked) (leaving state checked) (leaving (writeState (outcome .state)) (outcome .response))
+
+-- ---- a run: 16, 17, 30; else every event is answered, a refused one too, and they are counted
+
+-- the answer and the count, 0 in a refusal, and the lent bytes afterwards
 pub record Ran : Type 0 where
   pub response : Response
   pub count : ℕ
@@ -68,48 +87,61 @@ pub record Ran : Type 0 where
   pub output : List ℕ
 
 abbrev pub counted : Response → (count : ℕ) → (state output : List ℕ) → Ran
-counted r n b out = record { response = r; count = n; state = b; output = out }
+counted response count state output = record { response = response; count = count; state = state; output = output }
 
--- n event records, from the i-th
-unfoldable pub eventsFrom : List ℕ → ℕ → ℕ → List Event
-eventsFrom b zero i = []
-eventsFrom b (suc n) i = readEvent (take eventSize (drop (eventSize * i) b)) ∷ eventsFrom b n (suc i)
+-- record i of the events, and n records from the i-th
+abbrev pub recordAt : List ℕ → ℕ → List ℕ
+recordAt events i = take eventSize (drop (eventSize * i) events)
 
--- "an output of two bytes each, number then detail"
+unfoldable pub recordsFrom : List ℕ → ℕ → ℕ → List (List ℕ)
+recordsFrom events zero i = []
+recordsFrom events (suc n) i = recordAt events i ∷ recordsFrom events n (suc i)
+
+-- the records, each read
+abbrev pub eventsFrom : List ℕ → ℕ → ℕ → List Event
+eventsFrom events n i = map readEvent (recordsFrom events n i)
+
+-- the number of an answer, then its detail
 abbrev pub answerSize : ℕ
 answerSize = 2
 
 unfoldable pub outputOf : List Response → List ℕ
 outputOf [] = []
-outputOf (r ∷ rs) = r .number ∷ r .detail ∷ outputOf rs
+outputOf (response ∷ responses) = response .number ∷ response .detail ∷ outputOf responses
 
--- "16, then 17, then 30 if the events aren't whole records or the output isn't exactly twice their number. Otherwise it answers
--- every event, refused ones included, and returns DONE with the number of events, 0 for none. A refused run has count 0."
+abbrev pub recordCount : (events : List ℕ) → ℕ
+recordCount events = length events / eventSize
+
+-- whole records, and room for exactly their answers
+abbrev pub sizesFit : (events output : List ℕ) → Bool
+sizesFit events output = eqb (length events % eventSize) 0 && eqb (length output) (answerSize * recordCount events)
+
 unfoldable pub runCall : (policy state events output : List ℕ) → Ran
-runCall policy b es out =
-    let r = checkCall policy b in
-    let n = length es / eventSize in
-    let f = fixedBy policy in
-    let s = readState b in
-    let events = eventsFrom es n 0 in
-    cond (refused r) (counted r 0 b out)
-    (cond (not (eqb (length es % eventSize) 0 && eqb (length out) (answerSize * n))) (counted BAD-LENGTH 0 b out)
-    (counted DONE n (writeState (after f s events)) (outputOf (responses f s events))))
+runCall policy state events output =
+    let checked = checkCall policy state in
+    let n = recordCount events in
+    let fixed = fixedBy policy in
+    let first = readState state in
+    let read = eventsFrom events n 0 in
+    cond (refused checked) (counted checked 0 state output)
+    (cond (not (sizesFit events output)) (counted BAD-LENGTH 0 state output)
+    (counted DONE n (writeState (after fixed first read)) (outputOf (responses fixed first read))))
 
--- "find, which answers with a number (16, 17, then 21; suite 0 gives 21)"
+-- ---- a suite found: 16, 17, 21, which suite 0 always is
+
 unfoldable pub findCall : (policy state : List ℕ) → Suite → Response
-findCall policy b i =
-    let r = checkCall policy b in
-    cond (refused r) r
-    (cond (not (isSuite i && carries i (readState b .slots))) NOT-INSTALLED
+findCall policy state suite =
+    let checked = checkCall policy state in
+    cond (refused checked) checked
+    (cond (not (isSuite suite && carries suite (readState state .slots))) NOT-INSTALLED
     DONE)
 
--- "the suite's 40 bytes as a part of the lent state, an empty part exactly when find refuses": where it begins, and its size
+-- its record in the lent state: where that begins, and its size; nothing, at the start, where find refuses
 pub record Part : Type 0 where
   pub from : ℕ
   pub size : ℕ
 
 unfoldable pub partCall : (policy state : List ℕ) → Suite → Part
-partCall policy b i =
-    cond (refused (findCall policy b i)) (record { from = 0; size = 0 })
-    (record { from = recordSize * suc (place i (readState b .slots)); size = recordSize })
+partCall policy state suite =
+    cond (refused (findCall policy state suite)) (record { from = 0; size = 0 })
+    (record { from = recordSize * suc (place suite (readState state .slots)); size = recordSize })

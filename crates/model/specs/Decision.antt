@@ -5,22 +5,22 @@
 use Prim.Native.Nat.{ℕ}
 use mathlib.Core.Bool.{Bool, true, false, not, _&&_, _||_, cond}
 use Rattle.words.specs.Sets.{insert}
-use Rattle.model.specs.declared.Permission.{Permission}
-use Rattle.model.specs.declared.UserAnswer.{UserAnswer}
-use Rattle.model.specs.declared.UserAnswer.the-variants.{None, Allow, Deny}
-use Rattle.model.specs.declared.Standing.{Standing}
-use Rattle.model.specs.declared.Standing.the-variants.{Nothing, Granted, Revoked}
-use Rattle.model.specs.declared.Decisions.{Decisions}
-use Rattle.model.specs.declared.Response.{Response}
-use Rattle.model.specs.Device.{has}
-use Rattle.model.specs.Policy.{offered, unconditional, admits}
-use Rattle.model.specs.Answers.{ALLOWED, DENIED, ASK, NOT-DECLARED, NO-RIGHT, ANSWER-NOT-ASKED, MODE-TOO-WIDE}
+use Rattle.device.specs.declared.Permission.{Permission}
+use Rattle.device.specs.declared.UserAnswer.{UserAnswer}
+use Rattle.device.specs.declared.UserAnswer.the-variants.{None, Allow, Deny}
+use Rattle.device.specs.declared.Standing.{Standing}
+use Rattle.device.specs.declared.Standing.the-variants.{Nothing, Granted, Revoked}
+use Rattle.device.specs.declared.Decisions.{Decisions}
+use Rattle.device.specs.declared.Response.{Response}
+use Rattle.device.specs.Device.{has}
+use Rattle.device.specs.Cells.{offered, unconditional, admits}
+use Rattle.device.specs.Answers.{ALLOWED, DENIED, ASK, NOT-DECLARED, NO-RIGHT, ANSWER-NOT-ASKED, MODE-TOO-WIDE}
 
--- "p stands granted (either width)", "Stands revoked", "none stands": from the session's decisions and its suite's own slot
+-- what stands on a permission, for the session or for good: from the session's decisions and those of its suite's own slot
 unfoldable pub standing : Permission → (session slot : Decisions) → Standing
-standing p r x =
-    cond (has (r .granted) p || has (x .granted) p) Granted
-    (cond (has (r .revoked) p || has (x .revoked) p) Revoked
+standing permission session slot =
+    cond (has (session .granted) permission || has (slot .granted) permission) Granted
+    (cond (has (session .revoked) permission || has (slot .revoked) permission) Revoked
     Nothing)
 
 abbrev pub stands : Standing → Bool
@@ -28,39 +28,40 @@ stands Nothing = false
 stands Granted = true
 stands Revoked = true
 
--- "answer not 0"
 abbrev pub given : UserAnswer → Bool
 given None = false
-given (Allow m) = true
-given (Deny m) = true
+given (Allow mode) = true
+given (Deny mode) = true
 
--- "allow above c"; a denial has no bound (004 2.18)
-abbrev pub tooWide : ℕ → UserAnswer → Bool
-tooWide c None = false
-tooWide c (Allow m) = not (admits c m)
-tooWide c (Deny m) = false
+-- an allowance wider than the cell admits; a denial has no bound (004 2.18)
+abbrev pub tooWide : (cell : ℕ) → UserAnswer → Bool
+tooWide cell None = false
+tooWide cell (Allow mode) = not (admits cell mode)
+tooWide cell (Deny mode) = false
 
--- "granted: ALLOWED. Stands revoked: DENIED. None stands: answer 0 gives ASK. Allow gives ALLOWED. Deny gives DENIED"
-abbrev pub settled : ℕ → Standing → UserAnswer → Response
-settled c Granted u = ALLOWED
-settled c Revoked u = DENIED
-settled c Nothing None = ASK c
-settled c Nothing (Allow m) = ALLOWED
-settled c Nothing (Deny m) = DENIED
+-- what stands decides; where nothing does, the user's answer, and without one he is asked
+abbrev pub settled : (cell : ℕ) → Standing → UserAnswer → Response
+settled cell Granted answer = ALLOWED
+settled cell Revoked answer = DENIED
+settled cell Nothing None = ASK cell
+settled cell Nothing (Allow mode) = ALLOWED
+settled cell Nothing (Deny mode) = DENIED
 
--- "the refusals come first, then the first of these that fits": 26, 27, 28, 29
+-- the refusals in their order, 26, 27, 28 and 29, before anything is allowed
 unfoldable pub decision : (declared : Bool) → (cell : ℕ) → Standing → UserAnswer → Response
-decision k c w u =
-    cond (not k) NOT-DECLARED
-    (cond (not (offered c)) NO-RIGHT
-    (cond (given u && (unconditional c || stands w)) ANSWER-NOT-ASKED
-    (cond (tooWide c u && not (stands w)) (MODE-TOO-WIDE c)
-    (cond (unconditional c) ALLOWED
-    (settled c w u)))))
+decision declared cell standing answer =
+    cond (not declared) NOT-DECLARED
+    (cond (not (offered cell)) NO-RIGHT
+    (cond (given answer && (unconditional cell || stands standing)) ANSWER-NOT-ASKED
+    (cond (tooWide cell answer && not (stands standing)) (MODE-TOO-WIDE cell)
+    (cond (unconditional cell) ALLOWED
+    (settled cell standing answer)))))
 
 -- decisions with one more
 abbrev pub grant : Permission → Decisions → Decisions
-grant p d = record { granted = insert (d .granted) (p .0); revoked = d .revoked }
+grant permission decisions =
+    record { granted = insert (decisions .granted) (permission .0); revoked = decisions .revoked }
 
 abbrev pub revoke : Permission → Decisions → Decisions
-revoke p d = record { granted = d .granted; revoked = insert (d .revoked) (p .0) }
+revoke permission decisions =
+    record { granted = decisions .granted; revoked = insert (decisions .revoked) (permission .0) }

@@ -6,14 +6,15 @@ use mathlib.Core.Logic.{_⊎_}
 use mathlib.Core.List.{List, [], _∷_, map}
 use lib.ListN.{getD}
 use lib.Dec.{eqb}
-use Rattle.model.specs.declared.Suite.{Suite}
-use Rattle.model.specs.declared.Slot.{Slot}
-use Rattle.model.specs.declared.Session.{Session}
-use Rattle.model.specs.declared.Event.{Event}
-use Rattle.model.specs.declared.Event.the-variants.{Unreadable, Install, Remove, Start, Terminate, Request}
-use Rattle.model.specs.Device.{same}
+use Rattle.device.specs.declared.Suite.{Suite}
+use Rattle.device.specs.declared.Slot.{Slot}
+use Rattle.device.specs.declared.Session.{Session}
+use Rattle.device.specs.declared.Event.{Event}
+use Rattle.device.specs.declared.Event.the-variants.{Unreadable, Install, Remove, Start, Terminate, Request}
+use Rattle.device.specs.Device.{sameSuite}
 use Rattle.model.specs.Policy.{Fixed}
-use Rattle.model.specs.State.{State, undecided, carries, find, slotBytes}
+use Rattle.model.specs.State.{State, carries, find, slotBytes}
+use Rattle.device.specs.Empty.{undecided}
 use Rattle.model.specs.Valid.{valid}
 use Rattle.model.specs.Events.{readEvent}
 use Rattle.model.specs.Step.{step}
@@ -26,11 +27,11 @@ slotSeen w x = record {
   suite = x .suite;
   domain = x .domain;
   descriptor = x .descriptor;
-  decisions = cond (same (x .suite) w) (x .decisions) undecided;
+  decisions = cond (sameSuite (x .suite) w) (x .decisions) undecided;
 }
 
 abbrev pub sessionSeen : Suite → Session → Session
-sessionSeen w r = record { suite = r .suite; decisions = cond (same (r .suite) w) (r .decisions) undecided }
+sessionSeen w r = record { suite = r .suite; decisions = cond (sameSuite (r .suite) w) (r .decisions) undecided }
 
 unfoldable pub seen : Suite → State → State
 seen w s = record { session = sessionSeen w (s .session); slots = map (slotSeen w) (s .slots) }
@@ -45,7 +46,7 @@ pub record Alike (f : Fixed) (w : Suite) (s t : State) : Type 0 where
 
 -- it isn't running where another suite is, and where nothing is
 abbrev pub runs : Suite → State → Bool
-runs w s = same (s .session .suite) w
+runs w s = sameSuite (s .session .suite) w
 
 -- a record that has a request's kind, damaged or not; an event that is a request
 abbrev pub marked : List ℕ → Bool

@@ -1,9 +1,7 @@
-pub mod Device
 pub mod Policy
 pub mod State
 pub mod Valid
 pub mod Events
-pub mod Answers
 pub mod Decision
 pub mod Step
 pub mod Run

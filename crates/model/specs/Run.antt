@@ -1,17 +1,19 @@
--- A run is its events one after another.
+-- Events one after another: each from the state that the one before it left.
 use mathlib.Core.List.{List, [], _∷_}
-use Rattle.model.specs.declared.Event.{Event}
-use Rattle.model.specs.declared.Response.{Response}
+use Rattle.device.specs.declared.Event.{Event}
+use Rattle.device.specs.declared.Response.{Response}
 use Rattle.model.specs.Policy.{Fixed}
 use Rattle.model.specs.State.{State}
 use Rattle.model.specs.Step.{step}
 
 -- the state after the events
 unfoldable pub after : Fixed → State → List Event → State
-after f s [] = s
-after f s (e ∷ es) = after f (step f s e .state) es
+after fixed state [] = state
+after fixed state (event ∷ events) = after fixed (step fixed state event .state) events
 
 -- the answer to each
 unfoldable pub responses : Fixed → State → List Event → List Response
-responses f s [] = []
-responses f s (e ∷ es) = let o = step f s e in o .response ∷ responses f (o .state) es
+responses fixed state [] = []
+responses fixed state (event ∷ events) =
+    let outcome = step fixed state event in
+    outcome .response ∷ responses fixed (outcome .state) events

@@ -1,119 +1,131 @@
 -- 01, When a state is valid (000, 3.2; 004, 2.3), record by record in the order and by the names of request 1 of 02: the size; then
--- each slot, and after them the session, whether it is wrong in itself (`Sound`), has a number seen before (`ownNumber`), has a
--- decision wrong (`Decided`). 004's conditions on methods and functions are none of 01's. What the papers have as sets is bounded
--- here by the device's numbers.
+-- each slot, and after them the session, whether it is wrong in itself (`Sound`), has a number that a lower slot has (`ownNumber`),
+-- has a decision wrong (`Decided`). 004's conditions on methods and functions are none of 01's. What the papers have as sets is
+-- bounded here by the device's numbers.
 use Prim.Native.Nat.{ℕ, zero, suc, _+_}
 use mathlib.Core.Bool.{Bool, true, false, not, _&&_, _||_, cond}
 use mathlib.Core.List.{List, [], _∷_}
 use lib.ListN.{length}
 use lib.Dec.{eqb}
-use Rattle.model.specs.declared.Suite.{Suite}
-use Rattle.model.specs.declared.Permission.{Permission}
-use Rattle.model.specs.declared.Mode.{Mode}
-use Rattle.model.specs.declared.Mode.the-variants.{Oneshot as oneshot, Session as session, Blanket as blanket}
-use Rattle.model.specs.declared.Decisions.{Decisions}
-use Rattle.model.specs.declared.Slot.{Slot}
-use Rattle.model.specs.declared.Session.{Session}
-use Rattle.model.specs.Device.{isSuite, isDomain, isSet, noSuite, same, slotCount, has, every}
-use Rattle.model.specs.Policy.{Fixed, offered, admits}
-use Rattle.model.specs.State.{State, carries, find, recordSize, stateSize, slotAt, slotZeros, sessionZeros, readState}
+use Rattle.device.specs.declared.Suite.{Suite}
+use Rattle.device.specs.declared.Permission.{Permission}
+use Rattle.device.specs.declared.Mode.{Mode}
+use Rattle.device.specs.declared.Mode.the-variants.{Oneshot, Session as ForSession, Blanket}
+use Rattle.device.specs.declared.Decisions.{Decisions}
+use Rattle.device.specs.declared.Slot.{Slot}
+use Rattle.device.specs.declared.Session.{Session}
+use Rattle.device.specs.Device.{isSuite, isDomain, isSet, noSuite, sameSuite, slotCount, has, every}
+use Rattle.device.specs.Cells.{offered, admits}
+use Rattle.model.specs.Policy.{Fixed}
+use Rattle.model.specs.State.{State, carries, find, recordSize, stateSize, slotZeros, sessionZeros, readState}
 
 infixr 25 _⇒_
 abbrev pub _⇒_ : Bool → Bool → Bool
 _⇒_ true b = b
 _⇒_ false b = true
 
--- "Declared means required or optional"
+-- required or optional, or both
 unfoldable pub declared : Slot → Permission → Bool
-declared x p = has (x .descriptor .required) p || has (x .descriptor .optional) p
+declared slot permission = has (slot .descriptor .required) permission || has (slot .descriptor .optional) permission
 
 -- ---- decisions
 
 abbrev pub clear : Decisions → Bool
-clear d = eqb (d .granted) 0 && eqb (d .revoked) 0
+clear decisions = eqb (decisions .granted) 0 && eqb (decisions .revoked) 0
 
 abbrev pub decides : Decisions → Permission → Bool
-decides d p = has (d .granted) p || has (d .revoked) p
+decides decisions permission = has (decisions .granted) permission || has (decisions .revoked) permission
 
--- sets of permissions, each of which passes t
-abbrev pub allRight : Decisions → (Permission → Bool) → Bool
-allRight d t = isSet (d .granted) && (isSet (d .revoked) && every t)
+-- two sets of permissions, and every permission passes the test
+abbrev pub allFit : Decisions → (Permission → Bool) → Bool
+allFit decisions test = isSet (decisions .granted) && (isSet (decisions .revoked) && every test)
 
--- Decisions that hold as long as m says, at one permission that is declared or not and has cell c.
--- "Blanket grants are declared and have cell 3" (004 2.15). "Session grants are declared and have cell 2 or 3" (000 (16)): the user
--- may consent in mode m. "Either kind of revocation is declared and has cell 1, 2 or 3": the user is asked (004's policyCompatible
--- wants no more than a cell other than 0). "No permission stands in both sets" (000, 3.2, 6).
-abbrev pub fitting : Mode → (declared : Bool) → (c : ℕ) → (granted revoked : Bool) → Bool
-fitting m k c g r = (g ⇒ (k && admits c m)) && ((r ⇒ (k && admits c oneshot)) && not (g && r))
+-- Decisions that hold as long as the mode says, at one permission. A grant needs a declared permission, and a cell that lets the user
+-- consent in that mode: 3 for good (004 2.15), 2 or 3 for a session (000 (16)). A revocation of either kind needs a declared
+-- permission that the user is asked about: cell 1, 2 or 3 (004's policyCompatible wants only a cell other than 0). None is both
+-- (000, 3.2, 6).
+abbrev pub fitting : Mode → (declared : Bool) → (cell : ℕ) → (granted revoked : Bool) → Bool
+fitting mode declared cell granted revoked =
+    (granted ⇒ (declared && admits cell mode)) && ((revoked ⇒ (declared && admits cell Oneshot)) && not (granted && revoked))
 
 abbrev pub fits : Fixed → Slot → Mode → Decisions → Permission → Bool
-fits f x m d p = fitting m (declared x p) (f .cell (x .domain) p) (has (d .granted) p) (has (d .revoked) p)
+fits fixed slot mode decisions permission =
+    fitting mode (declared slot permission) (fixed .cell (slot .domain) permission)
+    (has (decisions .granted) permission) (has (decisions .revoked) permission)
 
 -- ---- a slot
 
--- "A free slot is all zero"
+-- all zero besides its number, as a free slot is
 abbrev pub blank : Slot → Bool
-blank x =
-    eqb (x .domain .0) 0 && (eqb (x .descriptor .required) 0 && (eqb (x .descriptor .optional) 0 && clear (x .decisions)))
+blank slot =
+    eqb (slot .domain .0) 0
+    && (eqb (slot .descriptor .required) 0 && (eqb (slot .descriptor .optional) 0 && clear (slot .decisions)))
 
--- the numbers are the device's, and "every required permission has a cell from 1 to 4 in the suite's domain" (000 (13), (14))
+-- the numbers are the device's, and the domain offers every required permission (000 (13), (14))
 unfoldable pub installable : Fixed → Slot → Bool
-installable f x =
-    isSuite (x .suite) && (isDomain (x .domain) && (isSet (x .descriptor .required) && (isSet (x .descriptor .optional)
-    && every (λ p. has (x .descriptor .required) p ⇒ offered (f .cell (x .domain) p)))))
+installable fixed slot =
+    isSuite (slot .suite) && (isDomain (slot .domain)
+    && (isSet (slot .descriptor .required) && (isSet (slot .descriptor .optional)
+    && every (λ permission. has (slot .descriptor .required) permission ⇒ offered (fixed .cell (slot .domain) permission)))))
 
--- right in itself, but for the zero bytes
+-- not wrong in itself, but for the zero bytes
 unfoldable pub slotSound : Fixed → Slot → Bool
-slotSound f x = cond (same (x .suite) noSuite) (blank x) (installable f x)
+slotSound fixed slot = cond (sameSuite (slot .suite) noSuite) (blank slot) (installable fixed slot)
 
--- "no suite number in two slots" (000 (17)): in no lower one
+-- no lower slot has its number (000 (17))
 unfoldable pub among : Suite → List Suite → Bool
-among i [] = false
-among i (j ∷ js) = same i j || among i js
+among suite [] = false
+among suite (other ∷ others) = sameSuite suite other || among suite others
 
 abbrev pub ownNumber : List Suite → Suite → Bool
-ownNumber lower i = same i noSuite || not (among i lower)
+ownNumber lower suite = sameSuite suite noSuite || not (among suite lower)
 
--- its blanket decisions
+-- its decisions, which hold for good
 unfoldable pub slotDecided : Fixed → Slot → Bool
-slotDecided f x = allRight (x .decisions) (fits f x blanket (x .decisions))
+slotDecided fixed slot = allFit (slot .decisions) (fits fixed slot Blanket (slot .decisions))
 
 unfoldable pub slotValid : Fixed → List Suite → Slot → Bool
-slotValid f lower x = slotSound f x && (ownNumber lower (x .suite) && slotDecided f x)
+slotValid fixed lower slot = slotSound fixed slot && (ownNumber lower (slot .suite) && slotDecided fixed slot)
 
 unfoldable pub slotsValid : Fixed → List Suite → List Slot → Bool
-slotsValid f lower [] = true
-slotsValid f lower (x ∷ xs) = slotValid f lower x && slotsValid f (x .suite ∷ lower) xs
+slotsValid fixed lower [] = true
+slotsValid fixed lower (slot ∷ slots) = slotValid fixed lower slot && slotsValid fixed (slot .suite ∷ lower) slots
 
 -- ---- the session
 
--- "so is record 0 when nothing runs"; "the running suite is installed" (000 (15))
+-- with nothing running no decision is left; a running suite is installed (000 (15))
 unfoldable pub sessionSound : State → Bool
-sessionSound s = cond (same (s .session .suite) noSuite) (clear (s .session .decisions)) (carries (s .session .suite) (s .slots))
+sessionSound state =
+    cond (sameSuite (state .session .suite) noSuite) (clear (state .session .decisions)) (carries (state .session .suite) (state .slots))
 
--- its session decisions, and "for the running suite, none stands in two of its four sets (004's permStateCoherence)"
+-- its decisions, which hold for the session, on permissions that its slot leaves undecided (004's permStateCoherence)
 abbrev pub fitsBeside : Fixed → Slot → Decisions → Permission → Bool
-fitsBeside f x d p = fits f x session d p && not (decides d p && decides (x .decisions) p)
+fitsBeside fixed slot decisions permission =
+    fits fixed slot ForSession decisions permission && not (decides decisions permission && decides (slot .decisions) permission)
 
 unfoldable pub sessionDecided : Fixed → Session → Slot → Bool
-sessionDecided f r x = allRight (r .decisions) (fitsBeside f x (r .decisions))
+sessionDecided fixed session slot = allFit (session .decisions) (fitsBeside fixed slot (session .decisions))
 
 unfoldable pub sessionValid : Fixed → State → Bool
-sessionValid f s = sessionSound s && sessionDecided f (s .session) (find (s .session .suite) (s .slots))
+sessionValid fixed state =
+    sessionSound state && sessionDecided fixed (state .session) (find (state .session .suite) (state .slots))
 
 -- ---- the state
 
 unfoldable pub valid : Fixed → State → Bool
-valid f s = eqb (length (s .slots)) slotCount && (slotsValid f [] (s .slots) && sessionValid f s)
+valid fixed state =
+    eqb (length (state .slots)) slotCount && (slotsValid fixed [] (state .slots) && sessionValid fixed state)
 
--- ---- the bytes: "Sizes, zero bytes and domains as above"
+-- ---- the bytes
 
--- n slot records, the first at place a, with these numbers in the lower slots
-unfoldable pub slotsRight : Fixed → List ℕ → List Suite → ℕ → ℕ → Bool
-slotsRight f b lower zero a = true
-slotsRight f b lower (suc n) a =
-    slotZeros b a && (slotValid f lower (slotAt b a) && slotsRight f b (slotAt b a .suite ∷ lower) n (a + recordSize))
+-- the zero bytes of n slot records, the first at this start
+unfoldable pub slotsZeros : List ℕ → ℕ → ℕ → Bool
+slotsZeros bytes zero start = true
+slotsZeros bytes (suc n) start = slotZeros bytes start && slotsZeros bytes n (start + recordSize)
 
-unfoldable pub stateRight : Fixed → List ℕ → Bool
-stateRight f b =
-    eqb (length b) stateSize && (slotsRight f b [] slotCount recordSize && (sessionZeros b && sessionValid f (readState b)))
+unfoldable pub zeroBytes : List ℕ → Bool
+zeroBytes bytes = slotsZeros bytes slotCount recordSize && sessionZeros bytes
+
+-- the size, the zero bytes, and a valid state
+unfoldable pub stateValid : Fixed → List ℕ → Bool
+stateValid fixed bytes = eqb (length bytes) stateSize && (zeroBytes bytes && valid fixed (readState bytes))

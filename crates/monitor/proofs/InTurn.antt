@@ -9,32 +9,32 @@ use native.Mathlib.Omega.{arith}
 use lib.ListN.{length, getD, take, drop, length-append, length-drop}
 use lib.Seq.{drop-append-le, drop-append-add, take-append-le}
 use borrow.Author.Tests.{eq-eqb}
-use Rattle.model.specs.Policy.{Fixed, fixedBy, policyRight}
+use Rattle.model.specs.Policy.{Fixed, fixedBy, policyValid}
 use Rattle.model.specs.State.{State, readState, writeState}
 use Rattle.model.specs.Valid.{valid}
 use Rattle.model.specs.Events.{readEvent}
-use Rattle.model.specs.Answers.{refused, DONE}
+use Rattle.device.specs.Answers.{refused, DONE}
 use Rattle.model.specs.Step.{step}
 use Rattle.model.specs.Run.{after, responses}
-use Rattle.model.specs.Calls.{leaving, checkCall, stepCall, eventsFrom, outputOf, runCall, counted}
-use Rattle.model.proofs.Right.{right-valid}
+use Rattle.model.specs.Calls.{leaving, checkCall, stepCall, recordsFrom, eventsFrom, outputOf, sizesFit, runCall, counted}
+use Rattle.model.proofs.Bytes.{holds-valid}
 use Rattle.model.proofs.Kept.{record-kept, run-kept}
 use Rattle.model.proofs.Runs.{after-append, responses-append}
 use Rattle.model.proofs.Calls.{passed}
-use Rattle.store.proofs.Zeros.{right-formed}
-use Rattle.store.proofs.Written.{valid-right, valid-holds}
-use Rattle.monitor.specs.InTurn.{recordsFrom, stepsCall}
-use Rattle.monitor.proofs.Laws.{Whole, whole-parts}
+use Rattle.store.proofs.Zeros.{well-formed}
+use Rattle.store.proofs.Written.{valid-written, valid-holds}
+use Rattle.monitor.specs.InTurn.{stepsCall}
+use Rattle.monitor.proofs.Laws.{fit-parts}
 use Rattle.monitor.proofs.Runs.{output-append}
 
-module _ (policy : List ℕ) (right : policyRight policy ≡ true) where
+module _ (policy : List ℕ) (right : policyValid policy ≡ true) where
   abbrev f : Fixed
   f = fixedBy policy
 
   -- the bytes of a valid state pass the check
   pub valid-passes : (s : State) → valid f s ≡ true → checkCall policy (writeState s) ≡ DONE
   unfolding checkCall
-  valid-passes s v = rw (right, valid-right f s v)
+  valid-passes s v = rw (right, valid-written f s v)
 
   pub step-written : (s : State) → valid f s ≡ true → (e : List ℕ)
       → stepCall policy (writeState s) e ≡ leaving (writeState (step f s (readEvent e) .state)) (step f s (readEvent e) .response)
@@ -44,7 +44,7 @@ module _ (policy : List ℕ) (right : policyRight policy ≡ true) where
   steps-written : (es : List ℕ) (n i : ℕ) (s : State) → valid f s ≡ true
       → stepsCall policy (writeState s) (recordsFrom es n i)
       ≡ record { state = writeState (after f s (eventsFrom es n i)); responses = responses f s (eventsFrom es n i) }
-  unfolding recordsFrom stepsCall eventsFrom after responses
+  unfolding recordsFrom stepsCall after responses
   steps-written es zero i s v = refl
   steps-written es (suc n) i s v =
       let e = take 24 (drop (24 * i) es) in
@@ -52,7 +52,7 @@ module _ (policy : List ℕ) (right : policyRight policy ≡ true) where
 
 module _ (policy b es out : List ℕ) (bytes : (k : ℕ) → getD b k 0 < 256) (good : refused (checkCall policy b) ≡ false) where
   -- "a run is its events one after another"
-  pub run-in-turn : Whole policy b es out ≡ true
+  pub run-in-turn : sizesFit es out ≡ true
       → let each = stepsCall policy b (recordsFrom es (length es / 24) 0) in
       runCall policy b es out ≡ counted DONE (length es / 24) (each .state) (outputOf (each .responses))
   unfolding runCall
@@ -61,16 +61,16 @@ module _ (policy b es out : List ℕ) (bytes : (k : ℕ) → getD b k 0 < 256) (
       let p = passed policy b good in
       let f = fixedBy policy in
       let s = readState b in
-      let whole = right-formed b bytes f (p .state-right) in
+      let whole = well-formed b bytes f (p .state-valid) in
       let e = ap (λ l. stepsCall policy l (recordsFrom es n 0)) (whole .written)
-      ∙ steps-written policy (p .policy-right) es n 0 s (right-valid f b (p .state-right)) in
+      ∙ steps-written policy (p .policy-valid) es n 0 s (holds-valid f b (p .state-valid)) in
       rw (good, h, e)
 
 -- ---- some records and then others
 
 -- they lie in the first list
 events-front : (a b : List ℕ) (n i : ℕ) → 24 * (i + n) ≤ length a → eventsFrom (a ++ b) n i ≡ eventsFrom a n i
-unfolding eventsFrom
+unfolding recordsFrom
 events-front a b zero i l = refl
 events-front a b (suc n) i l =
     let here : take 24 (drop (24 * i) (a ++ b)) ≡ take 24 (drop (24 * i) a) =
@@ -79,7 +79,7 @@ events-front a b (suc n) i l =
 
 -- they lie behind it
 events-behind : (a b : List ℕ) (m n i : ℕ) → length a ≡ 24 * m → eventsFrom (a ++ b) n (m + i) ≡ eventsFrom b n i
-unfolding eventsFrom
+unfolding recordsFrom
 events-behind a b m zero i e = refl
 events-behind a b m (suc n) i e =
     let k : 24 * (m + i) ≡ length a + 24 * i = omega arith in
@@ -88,7 +88,7 @@ events-behind a b m (suc n) i e =
     ap₂ _∷_ (ap (λ l. readEvent (take 24 l)) here) (rw next (events-behind a b m n (suc i) e))
 
 events-split : (b : List ℕ) (m n i : ℕ) → eventsFrom b (m + n) i ≡ eventsFrom b m i ++ eventsFrom b n (i + m)
-unfolding eventsFrom
+unfolding recordsFrom
 events-split b zero n i = rw (zero-add, add-zero)
 events-split b (suc m) n i =
     let e : suc i + m ≡ i + suc m = omega arith in
@@ -102,7 +102,7 @@ events-append a b m n e =
     ∙ ap₂ _++_ (events-front a b m 0 (omega arith)) (ap (eventsFrom (a ++ b) n) z ∙ events-behind a b m n 0 e)
 
 module _ (policy b : List ℕ) (bytes : (k : ℕ) → getD b k 0 < 256) (good : refused (checkCall policy b) ≡ false)
-    (es fs out more : List ℕ) (first : Whole policy b es out ≡ true) (second : Whole policy b fs more ≡ true) where
+    (es fs out more : List ℕ) (first : sizesFit es out ≡ true) (second : sizesFit fs more ≡ true) where
   pub run-append : let one = runCall policy b es out in
       let two = runCall policy (one .state) fs more in
       runCall policy b (es ++ fs) (out ++ more) ≡ counted DONE (one .count + two .count) (two .state) (one .output ++ two .output)
@@ -114,16 +114,16 @@ module _ (policy b : List ℕ) (bytes : (k : ℕ) → getD b k 0 < 256) (good : 
       let m = length es / 24 in
       let n = length fs / 24 in
       let t = after f s (eventsFrom es m 0) in
-      let v = run-kept f s (right-valid f b (p .state-right)) es m 0 in
-      let (se, oe) = whole-parts policy b es out first in
-      let (sf, of) = whole-parts policy b fs more second in
+      let v = run-kept f s (holds-valid f b (p .state-valid)) es m 0 in
+      let (se, oe) = fit-parts es out first in
+      let (sf, of) = fit-parts fs more second in
       let count : (length es + length fs) / 24 ≡ m + n = omega arith in
       let even : (length es + length fs) % 24 ≡ 0 = omega arith in
       let size : length out + length more ≡ 2 * (m + n) = omega arith in
       rw (
         good,
         first,
-        valid-passes policy (p .policy-right) t v,
+        valid-passes policy (p .policy-valid) t v,
         second,
         valid-holds f t v .read,
         length-append,

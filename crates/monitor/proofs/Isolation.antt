@@ -10,29 +10,28 @@ use lib.ListN.{length, getD, take, drop}
 use lib.Seq.{take-append-seam, drop-append-add}
 use borrow.Author.Tests.{ltb-true}
 use Rattle.words.specs.Numbers.{bytesOf}
-use Rattle.model.specs.declared.Suite.{Suite}
-use Rattle.model.specs.declared.Slot.{Slot}
-use Rattle.model.specs.declared.Response.{Response}
-use Rattle.model.specs.Device.{isSuite}
-use Rattle.model.specs.Policy.{Fixed, fixedBy, policyRight}
-use Rattle.model.specs.State.{State, carries, find, place, free, sessionBytes, slotBytes, slotsBytes, readState, writeState}
+use Rattle.device.specs.declared.Suite.{Suite}
+use Rattle.device.specs.declared.Slot.{Slot}
+use Rattle.device.specs.declared.Response.{Response}
+use Rattle.device.specs.Device.{isSuite}
+use Rattle.model.specs.Policy.{Fixed, fixedBy, policyValid}
+use Rattle.model.specs.State.{State, carries, find, place, sessionBytes, slotBytes, slotsBytes, readState, writeState}
+use Rattle.device.specs.Empty.{free}
 use Rattle.model.specs.Valid.{valid}
-use Rattle.model.specs.Answers.{refused, DONE, NOT-INSTALLED}
+use Rattle.device.specs.Answers.{refused, DONE, NOT-INSTALLED}
 use Rattle.model.specs.Run.{after, responses}
-use Rattle.model.specs.Calls.{Part, checkCall, findCall, partCall, eventsFrom, outputOf, counted, runCall}
+use Rattle.model.specs.Calls.{Part, checkCall, findCall, partCall, recordsFrom, eventsFrom, outputOf, sizesFit, counted, runCall}
 use Rattle.model.proofs.Tests.{both}
 use Rattle.model.specs.Isolation.{seen, Alike, Replaced, Isolated, Equal, excused}
 use Rattle.model.proofs.Calls.{passed}
-use Rattle.model.proofs.Right.{right-valid}
+use Rattle.model.proofs.Bytes.{holds-valid}
 use Rattle.model.proofs.Kept.{run-kept}
 use Rattle.model.proofs.Slots.{find-place, carries-place}
 use Rattle.model.proofs.Isolation.{equal-still, one-place, isolation}
 use Rattle.store.proofs.Records.{length-slot, length-session}
-use Rattle.store.proofs.Zeros.{right-formed}
+use Rattle.store.proofs.Zeros.{well-formed}
 use Rattle.store.proofs.Written.{valid-holds}
-use Rattle.monitor.specs.InTurn.{recordsFrom}
 use Rattle.monitor.specs.Isolation.{recordBytes, EqualBytes, IsolatedBytes, IsolatedRuns}
-use Rattle.monitor.proofs.Laws.{Whole}
 use Rattle.monitor.proofs.Runs.{length-events, length-responses}
 use Rattle.monitor.proofs.InTurn.{valid-passes, step-written}
 
@@ -62,7 +61,7 @@ found-part s k h =
     let e : 40 * suc k ≡ length b + 40 * k = omega (arith, length-session (s .session)) in
     rw (e, drop-append-add b (slotsBytes (s .slots)) (40 * k)) (slot-part (s .slots) k h)
 
-module _ (policy : List ℕ) (right : policyRight policy ≡ true) (w : Suite) where
+module _ (policy : List ℕ) (right : policyValid policy ≡ true) (w : Suite) where
   abbrev f : Fixed
   f = fixedBy policy
 
@@ -128,9 +127,9 @@ step-isolated policy w b b' bytes bytes' good good' equal es es' h =
     let p = passed policy b good in
     let p' = passed policy b' good' in
     let f = fixedBy policy in
-    rw (right-formed b bytes f (p .state-right) .written, right-formed b' bytes' f (p' .state-right) .written)
-    (written-isolated policy (p .policy-right) w (readState b) (readState b')
-    (record { one-valid = right-valid f b (p .state-right); other-valid = right-valid f b' (p' .state-right); equal-but = equal }) es es' h)
+    rw (well-formed b bytes f (p .state-valid) .written, well-formed b' bytes' f (p' .state-valid) .written)
+    (written-isolated policy (p .policy-valid) w (readState b) (readState b')
+    (record { one-valid = holds-valid f b (p .state-valid); other-valid = holds-valid f b' (p' .state-valid); equal-but = equal }) es es' h)
 
 -- ---- a run
 
@@ -140,7 +139,7 @@ at-place : (f : Fixed) (w : Suite) (es es' : List ℕ) (n j i : ℕ) (s t : Stat
     → (excused w (after f s (eventsFrom es i j)) (take 24 (drop (24 * (j + i)) es)) (take 24 (drop (24 * (j + i)) es')) ≡ false
     → getD (responses f s (eventsFrom es n j)) i DONE ≡ getD (responses f t (eventsFrom es' n j)) i DONE)
     × Equal w (after f s (eventsFrom es (suc i) j)) (after f t (eventsFrom es' (suc i) j))
-unfolding recordsFrom Isolated eventsFrom after responses
+unfolding recordsFrom Isolated after responses
 at-place f w es es' zero j i s t h l = absurd (omega arith)
 at-place f w es es' (suc n) j zero s t h l = (λ x. h .0 .answer (rw (add-zero j) at x), h .0 .equal)
 at-place f w es es' (suc n) j (suc i) s t h l =
@@ -167,8 +166,8 @@ module _ (policy : List ℕ) (w : Suite) (b b' : List ℕ)
     (equal : seen w (readState b) ≡ seen w (readState b')) where
   alike : Alike (fixedBy policy) w (readState b) (readState b')
   alike = record {
-    one-valid = right-valid (fixedBy policy) b (passed policy b good .state-right);
-    other-valid = right-valid (fixedBy policy) b' (passed policy b' good' .state-right);
+    one-valid = holds-valid (fixedBy policy) b (passed policy b good .state-valid);
+    other-valid = holds-valid (fixedBy policy) b' (passed policy b' good' .state-valid);
     equal-but = equal;
   }
 
@@ -176,13 +175,13 @@ module _ (policy : List ℕ) (w : Suite) (b b' : List ℕ)
       (recordsFrom es' n 0)
       → Equal w (after (fixedBy policy) (readState b) (eventsFrom es n 0)) (after (fixedBy policy) (readState b')
       (eventsFrom es' n 0))
-  unfolding eventsFrom after
+  unfolding recordsFrom after
   ended es es' zero each = equal-still (fixedBy policy) w (readState b) (readState b') equal
   ended es es' (suc n) each = at-place (fixedBy policy) w es es' (suc n) 0 n (readState b) (readState b') each (omega arith) .1
 
   -- two runs, of as many records, that fit their contracts
   pub run-isolated : (es es' lent lent' : List ℕ) (n : ℕ) → length es / 24 ≡ n → length es' / 24 ≡ n
-      → Whole policy b es lent ≡ true → Whole policy b' es' lent' ≡ true
+      → sizesFit es lent ≡ true → sizesFit es' lent' ≡ true
       → Replaced (fixedBy policy) w (readState b) (readState b') (recordsFrom es n 0) (recordsFrom es' n 0)
       → {r r' : Response} {c c' : ℕ} {exit exit' out out' : List ℕ}
       → counted r c exit out ≡ runCall policy b es lent → counted r' c' exit' out' ≡ runCall policy b' es' lent'
@@ -208,6 +207,6 @@ module _ (policy : List ℕ) (w : Suite) (b b' : List ℕ)
           → EqualBytes policy w (writeState (after (fixedBy policy) (readState b) (eventsFrom es n 0)))
           (writeState (after (fixedBy policy) (readState b') (eventsFrom es' n 0)))
       last n each =
-          equal-bytes policy (passed policy b good .policy-right) w _ _ (run-kept (fixedBy policy) (readState b)
+          equal-bytes policy (passed policy b good .policy-valid) w _ _ (run-kept (fixedBy policy) (readState b)
           (alike .one-valid) es n 0)
           (run-kept (fixedBy policy) (readState b') (alike .other-valid) es' n 0) (ended es es' n each)

@@ -5,34 +5,32 @@ use mathlib.Core.Bool.{true, not, false≢true}
 use mathlib.Core.List.{List, []}
 use Prim.Native.Nat.{ℕ, _+_, _<_}
 use lib.ListN.{getD}
-use Rattle.model.specs.declared.Response.{Response}
+use Rattle.device.specs.declared.Response.{Response}
 use Rattle.model.specs.Policy.{fixedBy}
 use Rattle.model.specs.State.{readState, writeState}
 use Rattle.model.specs.Events.{readEvent}
-use Rattle.model.specs.Answers.{refused}
+use Rattle.device.specs.Answers.{refused}
 use Rattle.model.specs.Step.{step}
 use Rattle.model.specs.Run.{after}
-use Rattle.model.specs.Calls.{Called, Ran, leaving, checkCall, stepCall, eventsFrom, runCall, counted}
+use Rattle.model.specs.Calls.{Called, Ran, leaving, checkCall, stepCall, sizesFit, runCall, counted}
 use Rattle.model.proofs.Tests.{cases}
 use Rattle.model.proofs.Runs.{refused-leaves}
 use Rattle.model.proofs.Calls.{one-outcome, passed}
-use Rattle.store.proofs.Zeros.{right-formed}
-use Rattle.monitor.proofs.Laws.{Whole}
-use Rattle.monitor.proofs.Runs.{recordAt, state-next}
+use Rattle.store.proofs.Zeros.{well-formed}
 
 -- ---- step
 
 record Leaves (b : List ℕ) (c : Called) : Type 0 where
-  same : refused (c .response) ≡ true → c .bytes ≡ b
+  kept : refused (c .response) ≡ true → c .bytes ≡ b
 
 step-leaves : (policy b event : List ℕ) → ((k : ℕ) → getD b k 0 < 256) → Leaves b (stepCall policy b event)
 unfolding stepCall
 step-leaves policy b event bytes =
     let f = fixedBy policy in
-    cases (Leaves b) (refused (checkCall policy b)) (λ _. record { same = λ _. refl })
+    cases (Leaves b) (refused (checkCall policy b)) (λ _. record { kept = λ _. refl })
     (λ good. record {
-      same = λ h. ap writeState (refused-leaves f (readState b) (readEvent event) h)
-          ∙ sym (right-formed b bytes f (passed policy b good .state-right) .written);
+      kept = λ h. ap writeState (refused-leaves f (readState b) (readEvent event) h)
+          ∙ sym (well-formed b bytes f (passed policy b good .state-valid) .written);
     })
 
 module _ (policy entry event : List ℕ) {exit : List ℕ} {r : Response} (called : leaving exit r ≡ stepCall policy entry event) where
@@ -41,19 +39,19 @@ module _ (policy entry event : List ℕ) {exit : List ℕ} {r : Response} (calle
 
   pub step-refusal : ((k : ℕ) → getD entry k 0 < 256) → refused r ≡ true → exit ≡ entry
   step-refusal bytes h =
-      ap (λ c. c .bytes) called ∙ step-leaves policy entry event bytes .same (ap (λ c. refused (c .response)) (sym called) ∙ h)
+      ap (λ c. c .bytes) called ∙ step-leaves policy entry event bytes .kept (ap (λ c. refused (c .response)) (sym called) ∙ h)
 
 -- ---- run
 
 record RunLeaves (b out : List ℕ) (c : Ran) : Type 0 where
-  same : refused (c .response) ≡ true → (c .state ≡ b) × (c .output ≡ out) × (c .count ≡ 0)
+  kept : refused (c .response) ≡ true → (c .state ≡ b) × (c .output ≡ out) × (c .count ≡ 0)
 
 run-leaves : (policy b events out : List ℕ) → RunLeaves b out (runCall policy b events out)
 unfolding runCall
 run-leaves policy b events out =
-    cases (RunLeaves b out) (refused (checkCall policy b)) (λ _. record { same = λ _. (refl, refl, refl) })
-    (λ _. cases (RunLeaves b out) (not (Whole policy b events out)) (λ _. record { same = λ _. (refl, refl, refl) })
-    (λ _. record { same = λ h. absurd (false≢true h) }))
+    cases (RunLeaves b out) (refused (checkCall policy b)) (λ _. record { kept = λ _. (refl, refl, refl) })
+    (λ _. cases (RunLeaves b out) (not (sizesFit events out)) (λ _. record { kept = λ _. (refl, refl, refl) })
+    (λ _. record { kept = λ h. absurd (false≢true h) }))
 
 module _ (policy entry events lent : List ℕ) {r : Response} {count : ℕ} {exit out : List ℕ}
     (called : counted r count exit out ≡ runCall policy entry events lent) where
@@ -65,15 +63,5 @@ module _ (policy entry events lent : List ℕ) {r : Response} {count : ℕ} {exi
 
   pub run-refusal : refused r ≡ true → (exit ≡ entry) × (out ≡ lent) × (count ≡ 0)
   run-refusal h =
-      let (b, o, n) = run-leaves policy entry events lent .same (ap (λ c. refused (c .response)) (sym called) ∙ h) in
+      let (b, o, n) = run-leaves policy entry events lent .kept (ap (λ c. refused (c .response)) (sym called) ∙ h) in
       (ap (λ c. c .state) called ∙ b, ap (λ c. c .output) called ∙ o, ap (λ c. c .count) called ∙ n)
-
--- in a run: an event that is refused leaves the state as it was, and only its own answer tells of it
-pub event-refusal : (policy state records : List ℕ) (i : ℕ)
-    → let f = fixedBy policy in
-    let s = after f (readState state) (eventsFrom records i 0) in
-    refused (step f s (recordAt records i) .response) ≡ true → after f (readState state) (eventsFrom records (i + 1) 0) ≡ s
-event-refusal policy state records i h =
-    let f = fixedBy policy in
-    sym (state-next f (readState state) records [] i) ∙ refused-leaves f (after f (readState state) (eventsFrom records i 0))
-    (recordAt records i) h

@@ -9,33 +9,34 @@ use native.Mathlib.Omega.{arith}
 use lib.ListN.{length, take, drop, length-drop, drop-of-length-le}
 use lib.Seq.{sets, sets-eq, length-sets, drop-drop}
 use Rattle.words.proofs.Stores.{sets-behind}
-use Rattle.model.specs.declared.Event.{Event}
-use Rattle.model.specs.declared.Response.{Response}
+use Rattle.device.specs.declared.Event.{Event}
+use Rattle.device.specs.declared.Response.{Response}
 use Rattle.model.specs.Policy.{Fixed}
 use Rattle.model.specs.State.{State, readState}
 use Rattle.model.specs.Events.{readEvent}
 use Rattle.model.specs.Step.{step}
 use Rattle.model.specs.Run.{after, responses}
-use Rattle.model.specs.Calls.{eventsFrom, outputOf}
+use Rattle.model.specs.Calls.{recordAt, recordsFrom, eventsFrom, outputOf}
 use Rattle.model.proofs.Runs.{after-append, responses-append}
 use Rattle.store.specs.Holds.{Holds}
 use Rattle.steps.specs.Did.{Knows}
+use Rattle.steps.proofs.Requests.{place-known}
 use Rattle.monitor.specs.Turned.{Turned, RanThrough}
 
 -- ---- one record more
 
-abbrev pub recordAt : List ℕ → ℕ → Event
-recordAt b i = readEvent (take 24 (drop (24 * i) b))
+abbrev eventAt : List ℕ → ℕ → Event
+eventAt b i = readEvent (recordAt b i)
 
-events-more : (b : List ℕ) (n i : ℕ) → eventsFrom b (suc n) i ≡ eventsFrom b n i ++ (recordAt b (i + n) ∷ [])
-unfolding eventsFrom
+events-more : (b : List ℕ) (n i : ℕ) → eventsFrom b (suc n) i ≡ eventsFrom b n i ++ (eventAt b (i + n) ∷ [])
+unfolding recordsFrom
 events-more b zero i = rw add-zero
 events-more b (suc n) i =
     let e : suc i + n ≡ i + suc n = omega arith in
-    ap (λ es. recordAt b i ∷ es) (rw (← e) (events-more b n (suc i)))
+    ap (λ es. eventAt b i ∷ es) (rw (← e) (events-more b n (suc i)))
 
 pub length-events : (b : List ℕ) (n i : ℕ) → length (eventsFrom b n i) ≡ n
-unfolding eventsFrom
+unfolding recordsFrom
 length-events b zero i = refl
 length-events b (suc n) i = ap suc (length-events b n (suc i))
 
@@ -75,19 +76,19 @@ module _ (f : Fixed) (s : State) (es lent : List ℕ) where
     abbrev pub now : State
     now = after f s (eventsFrom es i 0)
 
-    one-more : eventsFrom es (i + 1) 0 ≡ eventsFrom es i 0 ++ (recordAt es i ∷ [])
-    one-more = rw add-one (events-more es i 0 ∙ ap (λ n. eventsFrom es i 0 ++ (recordAt es n ∷ [])) (zero-add i))
+    one-more : eventsFrom es (i + 1) 0 ≡ eventsFrom es i 0 ++ (eventAt es i ∷ [])
+    one-more = rw add-one (events-more es i 0 ∙ ap (λ n. eventsFrom es i 0 ++ (eventAt es n ∷ [])) (zero-add i))
 
-    pub state-next : step f now (recordAt es i) .state ≡ after f s (eventsFrom es (i + 1) 0)
+    pub state-next : step f now (eventAt es i) .state ≡ after f s (eventsFrom es (i + 1) 0)
     unfolding after
-    state-next = sym (ap (after f s) one-more ∙ after-append f s (eventsFrom es i 0) (recordAt es i ∷ []))
+    state-next = sym (ap (after f s) one-more ∙ after-append f s (eventsFrom es i 0) (eventAt es i ∷ []))
 
-    answers-next : (r : Response) → r ≡ step f now (recordAt es i) .response
+    answers-next : (r : Response) → r ≡ step f now (eventAt es i) .response
         → answers i ++ (r .number ∷ r .detail ∷ []) ≡ answers (i + 1)
     unfolding answers responses outputOf
     answers-next r e =
         rw e (sym (ap (λ l. outputOf (responses f s l)) one-more ∙ ap outputOf (responses-append f s (eventsFrom es i 0)
-        (recordAt es i ∷ []))
+        (eventAt es i ∷ []))
         ∙ output-append (responses f s (eventsFrom es i 0)) _))
 
     rest-next : (n d : ℕ) → 2 * i + 2 ≤ length lent → sets (drop (2 * i) lent) 0 (n ∷ d ∷ []) ≡ (n ∷ d ∷ []) ++ drop (2 * (i + 1)) lent
@@ -96,10 +97,10 @@ module _ (f : Fixed) (s : State) (es lent : List ℕ) where
         sets-eq (n ∷ d ∷ []) (drop (2 * i) lent) 0 (rw length-drop (omega arith)) ∙ rw (drop-drop 2 (2 * i) lent, e)
 
     module _ {b out b' out' : List ℕ} {at at' : ℕ} (g : Going f s es lent i b out at) (l : 2 * i + 2 ≤ length lent) where
-      pub going-on : Turned (step f (readState b) (recordAt es i)) i out b' out' at' → Going f s es lent (i + 1) b' out' at'
+      pub going-on : Turned f (readState b) (eventAt es i) i out b' out' at' → Going f s es lent (i + 1) b' out' at'
       unfolding answers
       going-on t =
-          let r = step f (readState b) (recordAt es i) .response in
+          let r = step f (readState b) (eventAt es i) .response in
           let two = r .number ∷ r .detail ∷ [] in
           record {
             state = rw (← state-next, ← g .state .read) (t .state);
@@ -108,14 +109,14 @@ module _ (f : Fixed) (s : State) (es lent : List ℕ) where
                 ∙ sets-behind (answers i) (drop (2 * i) lent) 0 two ∙ ap (λ q. answers i ++ q) (rest-next (r .number)
                 (r .detail) l)
                 ∙ sym (append-assoc (answers i) two (drop (2 * (i + 1)) lent))
-                ∙ ap (λ q. q ++ drop (2 * (i + 1)) lent) (answers-next r (ap (λ y. step f y (recordAt es i) .response)
+                ∙ ap (λ q. q ++ drop (2 * (i + 1)) lent) (answers-next r (ap (λ y. step f y (eventAt es i) .response)
                 (g .state .read)));
             sized = ap length (t .output) ∙ length-sets out (2 * i) two ∙ g .sized;
-            place = t .place;
+            place = rw (t .place, t .state .read) (place-known f (readState b) (eventAt es i));
           }
 
   pub going-first : {b : List ℕ} → Holds b s → Going f s es lent 0 b lent 32
-  unfolding eventsFrom after responses outputOf
+  unfolding recordsFrom after responses outputOf
   going-first h = record { state = h; output = refl; sized = refl; place = λ t. absurd (false≢true t) }
 
   pub gone-through : {n : ℕ} {b out : List ℕ} {at : ℕ} → Going f s es lent n b out at → length lent ≡ 2 * n

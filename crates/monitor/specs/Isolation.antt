@@ -4,7 +4,7 @@ use mathlib.Core.Path.{_≡_}
 use mathlib.Core.Bool.{true, false}
 use mathlib.Core.List.{List, [], _∷_}
 use lib.ListN.{take, drop}
-use Rattle.model.specs.declared.Suite.{Suite}
+use Rattle.device.specs.declared.Suite.{Suite}
 use Rattle.model.specs.Policy.{fixedBy}
 use Rattle.model.specs.State.{readState}
 use Rattle.model.specs.Run.{after}

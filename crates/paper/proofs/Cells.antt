@@ -1,17 +1,18 @@
 -- The cells of a policy as the paper's policy. Assumes nothing.
-use Prim.Native.Nat.{ℕ, _≤_}
+use Prim.Native.Nat.{ℕ, zero, suc, _≤_}
+use native.Mathlib.Omega.{arith}
 use mathlib.Core.Path.{_≡_, refl, sym, ap, _∙_, subst⁻¹}
 use mathlib.Core.Logic.{_⊎_, inl, inr}
 use mathlib.Core.Bool.{Bool, true, false, cond, false≢true, true≢false}
-use lib.Dec.{eqb}
-use borrow.Author.Tests.{eqb-true, leb-true}
-use Rattle.model.specs.declared.Mode.{Mode}
-use Rattle.model.specs.declared.Mode.the-variants.{Oneshot as oneshot, Session as session, Blanket as blanket}
-use Rattle.model.specs.declared.Consent.{Consent}
-use Rattle.model.specs.declared.Consent.the-variants.{Unasked, UpTo}
-use Rattle.model.specs.Device.{width}
-use Rattle.model.specs.Policy.{Fixed, offered, unconditional, highest, upTo, admits}
-use Rattle.model.proofs.Modes.{asked-cell}
+use borrow.Author.Tests.{eqb-true, leb-true, le-leb, lt-leb}
+use Rattle.device.specs.declared.Mode.{Mode}
+use Rattle.device.specs.declared.Mode.the-variants.{Oneshot as oneshot, Session as session, Blanket as blanket}
+use Rattle.device.specs.declared.Consent.{Consent}
+use Rattle.device.specs.declared.Consent.the-variants.{Unasked, UpTo}
+use Rattle.device.specs.Device.{width, modeOf}
+use Rattle.model.specs.Policy.{Fixed}
+use Rattle.device.specs.Cells.{offered, unconditional, highest, upTo, admits}
+use Rattle.device.proofs.Modes.{asked-cell}
 use Rattle.paper.specs.Published.{OneMode}
 use Rattle.paper.specs.Refinement.{policyOf}
 
@@ -29,20 +30,19 @@ mode (UpTo m) = m
 
 -- ---- a cell that has the user asked
 
-module _ (c : ℕ) where
-  cell-width : (m : Mode) → highest c ≡ UpTo m → c ≡ width m
-  unfolding highest
-  cell-width m = go (eqb c 1) (eqb c 2) (eqb c 3) refl refl refl
-    where
-      go : (x y z : Bool) → eqb c 1 ≡ x → eqb c 2 ≡ y → eqb c 3 ≡ z
-          → cond x (UpTo oneshot) (cond y (UpTo session) (cond z (UpTo blanket) Unasked)) ≡ UpTo m → c ≡ width m
-      go true y z e1 e2 e3 h = eqb-true c 1 e1 ∙ ap (λ t. width (mode t)) h
-      go false true z e1 e2 e3 h = eqb-true c 2 e2 ∙ ap (λ t. width (mode t)) h
-      go false false true e1 e2 e3 h = eqb-true c 3 e3 ∙ ap (λ t. width (mode t)) h
-      go false false false e1 e2 e3 h = absurd (false≢true (ap some-mode h))
+cell-width : (c : ℕ) (m : Mode) → highest c ≡ UpTo m → c ≡ width m
+unfolding highest modeOf
+cell-width zero m h = absurd (false≢true (ap some-mode h))
+cell-width (suc zero) m h = ap (λ t. width (mode t)) h
+cell-width (suc (suc zero)) m h = ap (λ t. width (mode t)) h
+cell-width (suc (suc (suc zero))) m h = ap (λ t. width (mode t)) h
+cell-width (suc (suc (suc (suc c)))) m h =
+    let k = suc (suc (suc (suc c))) in
+    absurd (false≢true (ap some-mode (rw (le-leb 1 k (omega arith), lt-leb k 3 (omega arith)) at h)))
 
+module _ (c : ℕ) where
   by-width : (P : ℕ → Type 0) → P 1 → P 2 → P 3 → Asking c → P c
-  by-width P one two three (m, e) = subst⁻¹ P (cell-width m e) (go m)
+  by-width P one two three (m, e) = subst⁻¹ P (cell-width c m e) (go m)
     where
       go : (m : Mode) → P (width m)
       go oneshot = one
@@ -56,7 +56,7 @@ module _ (c : ℕ) where
   asked-not-free = by-width (λ c. unconditional c ≡ false) refl refl refl
 
   pub asked-once : Asking c → admits c oneshot ≡ true
-  unfolding highest
+  unfolding highest modeOf
   asked-once = by-width (λ c. admits c oneshot ≡ true) refl refl refl
 
   -- a mode that it admits, in the paper's words

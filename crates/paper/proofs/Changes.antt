@@ -4,8 +4,8 @@ use mathlib.Core.Logic.{_≢_}
 use mathlib.Core.HLevel.{Discrete}
 use mathlib.Core.Option.{Option, some, Option·some-injective}
 use native.Mathlib.Decide.{ℕ-discrete}
-use Rattle.model.specs.declared.Suite.{Suite as SuiteID}
-use Rattle.model.specs.declared.Permission.{Permission}
+use Rattle.device.specs.declared.Suite.{Suite as SuiteID}
+use Rattle.device.specs.declared.Permission.{Permission}
 use Rattle.paper.specs.Published.{Suite, Policy, SessionInfo, State, Undecided, Asked}
 use Rattle.paper.specs.Published.{UserAnswer, ua-allow, ua-deny, request}
 use Rattle.paper.specs.Published.{_≡ses-granted_, _≡ses-revoked_, Enters, EntersFor, Runs, Pre}

@@ -2,10 +2,10 @@
 use mathlib.Core.Path.{_≡_, refl, sym, _∙_, subst, subst⁻¹}
 use mathlib.Core.Logic.{_⊎_, inl, inr, ⊎-elim}
 use mathlib.Core.Option.{Option, none, some, Option·some-ne-none}
-use Rattle.model.specs.declared.Suite.{Suite as SuiteID}
-use Rattle.model.specs.declared.Permission.{Permission}
-use Rattle.model.specs.declared.Domain.{Domain}
-use Rattle.model.specs.declared.Mode.the-variants.{Oneshot as oneshot, Session as session, Blanket as blanket}
+use Rattle.device.specs.declared.Suite.{Suite as SuiteID}
+use Rattle.device.specs.declared.Permission.{Permission}
+use Rattle.device.specs.declared.Domain.{Domain}
+use Rattle.device.specs.declared.Mode.the-variants.{Oneshot as oneshot, Session as session, Blanket as blanket}
 use Rattle.paper.specs.Published.{Descriptor, Suite, Policy, SessionInfo, State, Undecided, Asked}
 use Rattle.paper.specs.Published.{Valid, Coherent, OneStands, NoneStands}
 use Rattle.paper.specs.Published.{ua-allow, ua-deny, Response, Event, start, terminate, request, install, remove}

@@ -5,16 +5,17 @@ use mathlib.Core.Logic.{inl, inr}
 use mathlib.Core.List.{[]}
 use mathlib.Core.Bool.{Bool, true, false, not, _&&_, _||_, false≢true, or-true}
 use borrow.Author.Tests.{ltb-true}
-use Rattle.model.specs.declared.Suite.{Suite}
-use Rattle.model.specs.declared.Permission.{Permission}
-use Rattle.model.specs.declared.Mode.{Mode}
-use Rattle.model.specs.declared.Mode.the-variants.{Oneshot as oneshot, Session as session, Blanket as blanket}
-use Rattle.model.specs.declared.Decisions.{Decisions}
-use Rattle.model.specs.declared.Slot.{Slot}
-use Rattle.model.specs.Device.{isPermission, isSet, has, every}
-use Rattle.model.specs.Policy.{Fixed, admits}
+use Rattle.device.specs.declared.Suite.{Suite}
+use Rattle.device.specs.declared.Permission.{Permission}
+use Rattle.device.specs.declared.Mode.{Mode}
+use Rattle.device.specs.declared.Mode.the-variants.{Oneshot as oneshot, Session as session, Blanket as blanket}
+use Rattle.device.specs.declared.Decisions.{Decisions}
+use Rattle.device.specs.declared.Slot.{Slot}
+use Rattle.device.specs.Device.{isPermission, isSet, has, every}
+use Rattle.model.specs.Policy.{Fixed}
+use Rattle.device.specs.Cells.{admits}
 use Rattle.model.specs.State.{State, find}
-use Rattle.model.specs.Valid.{_⇒_, declared, decides, allRight, fitting, fits, slotDecided, fitsBeside, sessionDecided, valid}
+use Rattle.model.specs.Valid.{_⇒_, declared, decides, allFit, fitting, fits, slotDecided, fitsBeside, sessionDecided, valid}
 use Rattle.model.specs.Step.{runningSlot}
 use Rattle.model.proofs.Tests.{both, all-three, every-at}
 use Rattle.model.proofs.Kept.{holds}
@@ -63,7 +64,7 @@ module _ (f : Fixed) (s : State) (v : valid f s ≡ true) (p : Permission) (is :
   abbrev FitOf : Mode → Slot → (g r : ℕ) → Type 0
   FitOf m x g r = Fit m (declared x p) (f .cell (x .domain) p) (has g p) (has r p)
 
-  here : (d : Decisions) (t : Permission → Bool) → allRight d t ≡ true → t p ≡ true
+  here : (d : Decisions) (t : Permission → Bool) → allFit d t ≡ true → t p ≡ true
   here d t h = every-at t (all-three (isSet (d .granted)) (isSet (d .revoked)) (every t) h .2) p (ltb-true (p .0) 64 is)
 
   -- of any suite; nothing is decided of one that is not installed

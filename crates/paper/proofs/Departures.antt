@@ -5,20 +5,21 @@ use mathlib.Core.Path.{_≡_, refl, sym, _∙_}
 use mathlib.Core.Logic.{inl, inr}
 use mathlib.Core.Option.{Option, none, some}
 use mathlib.Core.Bool.{true, false, true≢false}
-use Rattle.model.specs.declared.Suite.{Suite}
-use Rattle.model.specs.declared.Permission.{Permission}
-use Rattle.model.specs.declared.Domain.{Domain}
-use Rattle.model.specs.declared.Mode.{Mode}
-use Rattle.model.specs.declared.Mode.the-variants.{Oneshot as oneshot, Session as session, Blanket as blanket}
-use Rattle.model.specs.declared.UserAnswer.the-variants.{None}
-use Rattle.model.specs.declared.Descriptor.{Descriptor}
-use Rattle.model.specs.declared.Slot.{Slot}
-use Rattle.model.specs.declared.Event.the-variants.{Request}
-use Rattle.model.specs.Device.{isPermission}
-use Rattle.model.specs.Policy.{Fixed, offered, admits}
+use Rattle.device.specs.declared.Suite.{Suite}
+use Rattle.device.specs.declared.Permission.{Permission}
+use Rattle.device.specs.declared.Domain.{Domain}
+use Rattle.device.specs.declared.Mode.{Mode}
+use Rattle.device.specs.declared.Mode.the-variants.{Oneshot as oneshot, Session as session, Blanket as blanket}
+use Rattle.device.specs.declared.UserAnswer.the-variants.{None}
+use Rattle.device.specs.declared.Descriptor.{Descriptor}
+use Rattle.device.specs.declared.Slot.{Slot}
+use Rattle.device.specs.declared.Event.the-variants.{Request}
+use Rattle.device.specs.Device.{isPermission}
+use Rattle.model.specs.Policy.{Fixed}
+use Rattle.device.specs.Cells.{offered, admits}
 use Rattle.model.specs.State.{State, carries}
 use Rattle.model.specs.Valid.{declared}
-use Rattle.model.specs.Answers.{NO-RIGHT}
+use Rattle.device.specs.Answers.{NO-RIGHT}
 use Rattle.model.specs.Decision.{decision}
 use Rattle.model.specs.Step.{runningSlot, lacking, judged, request, step}
 use Rattle.model.proofs.Slots.{find-suite}

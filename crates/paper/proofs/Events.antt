@@ -7,20 +7,22 @@ use mathlib.Core.Bool.{Bool, true, false, not, _&&_, cond, false≢true, true≢
 use borrow.Author.Tests.{eqb-false, ltb-true, not-true, not-false}
 use Rattle.words.proofs.Search.{firstFrom-passes}
 use Prim.Native.Nat.{ℕ}
-use Rattle.model.specs.declared.Suite.{Suite}
-use Rattle.model.specs.declared.Permission.{Permission}
-use Rattle.model.specs.declared.Domain.{Domain}
-use Rattle.model.specs.declared.Descriptor.{Descriptor}
-use Rattle.model.specs.declared.Decisions.{Decisions}
-use Rattle.model.specs.declared.Slot.{Slot}
-use Rattle.model.specs.declared.Session.{Session}
-use Rattle.model.specs.declared.Event.{Event}
-use Rattle.model.specs.declared.Event.the-variants.{Install, Remove, Start, Terminate}
-use Rattle.model.specs.Device.{isPermission, noSuite, same, has, lowest}
-use Rattle.model.specs.Policy.{Fixed, offered}
-use Rattle.model.specs.State.{State, undecided, free, carries, find, amend}
+use Rattle.device.specs.declared.Suite.{Suite}
+use Rattle.device.specs.declared.Permission.{Permission}
+use Rattle.device.specs.declared.Domain.{Domain}
+use Rattle.device.specs.declared.Descriptor.{Descriptor}
+use Rattle.device.specs.declared.Decisions.{Decisions}
+use Rattle.device.specs.declared.Slot.{Slot}
+use Rattle.device.specs.declared.Session.{Session}
+use Rattle.device.specs.declared.Event.{Event}
+use Rattle.device.specs.declared.Event.the-variants.{Install, Remove, Start, Terminate}
+use Rattle.device.specs.Device.{isPermission, noSuite, sameSuite, has, lowest}
+use Rattle.model.specs.Policy.{Fixed}
+use Rattle.device.specs.Cells.{offered}
+use Rattle.model.specs.State.{State, carries, find, amend}
+use Rattle.device.specs.Empty.{undecided, free}
 use Rattle.model.specs.Valid.{valid}
-use Rattle.model.specs.Step.{Outcome, running, lacking, installed, step}
+use Rattle.model.specs.Step.{Outcome, inSession, lacking, installed, step}
 use Rattle.model.proofs.Tests.{both, cases, same-sym}
 use Rattle.model.proofs.Slots.{same-suite}
 use Rattle.model.proofs.Kept.{holds, none-lacking}
@@ -57,10 +59,10 @@ module _ (f : Fixed) (x : Descriptor) (d : Domain) where
 module _ (f : Fixed) (s : State) (v : valid f s ≡ true) (S : Published.State) (h : S ⊑ s) where
   -- ---- start and terminate
 
-  pub start-follows : (i : Suite) → same i noSuite ≡ false → Simulated f S s (Start i) (step f s (Start i))
+  pub start-follows : (i : Suite) → sameSuite i noSuite ≡ false → Simulated f S s (Start i) (step f s (Start i))
   unfolding step
   start-follows i n =
-      cases M (running s)
+      cases M (inSession s)
       (λ busy. (S, published (start i) refl (npre (λ k. some-ne-none (sym (one-runs h (not-true _ busy)) ∙ k .0))), h))
       (λ idle. cases M (not (carries i (s .slots)))
       (λ gone. (S, published (start i) refl (npre (λ k. no-suite h i (not-true _ gone) (k .1 .0) (k .1 .1) (k .1 .2))), h))
@@ -80,7 +82,7 @@ module _ (f : Fixed) (s : State) (v : valid f s ≡ true) (S : Published.State) 
   pub terminate-follows : Simulated f S s Terminate (step f s Terminate)
   unfolding step
   terminate-follows =
-      cases (Simulated f S s Terminate) (not (running s))
+      cases (Simulated f S s Terminate) (not (inSession s))
       (λ idle. (S, published terminate refl (npre (λ k. k (nothing-runs h (not-false _ (not-true _ idle))))), h))
       (λ runs. (
         record { suite = S .suite; session = none; granted = S .granted; revoked = S .revoked },
@@ -98,11 +100,11 @@ module _ (f : Fixed) (s : State) (v : valid f s ≡ true) (S : Published.State) 
     abbrev with-it : List Slot
     with-it = amend noSuite (λ _. y) (s .slots)
 
-    module _ (n : same i noSuite ≡ false) (new : carries i (s .slots) ≡ false) (room : carries noSuite (s .slots) ≡ true) where
+    module _ (n : sameSuite i noSuite ≡ false) (new : carries i (s .slots) ≡ false) (room : carries noSuite (s .slots) ≡ true) where
       found : find i with-it ≡ y
       found = find-new noSuite y (s .slots) room new
 
-      beside : (ms : Published.Suite) → same (ms .id) noSuite ≡ false → same (ms .id) i ≡ false
+      beside : (ms : Published.Suite) → sameSuite (ms .id) noSuite ≡ false → sameSuite (ms .id) i ≡ false
           → Installed with-it ms ≡ Installed (s .slots) ms
       beside ms z m = installed-put noSuite y (s .slots) ms (same-sym (ms .id) noSuite z) (same-sym (ms .id) i m)
 
@@ -112,24 +114,24 @@ module _ (f : Fixed) (s : State) (v : valid f s ≡ true) (S : Published.State) 
           transport⁻¹ (beside ms (t .0) (not-same (ms .id) i (no-suite h i new ms k))) t
 
       only : (ms : Published.Suite) → Installed with-it ms → S .suite ms ⊎ (ms ≡ suiteOf y)
-      only ms k = go (same (ms .id) i) refl
+      only ms k = go (sameSuite (ms .id) i) refl
         where
-          go : (b : Bool) → same (ms .id) i ≡ b → S .suite ms ⊎ (ms ≡ suiteOf y)
+          go : (b : Bool) → sameSuite (ms .id) i ≡ b → S .suite ms ⊎ (ms ≡ suiteOf y)
           go true e = inr (k .2 ∙ ap (λ j. suiteOf (find j with-it)) (same-suite (ms .id) i e) ∙ ap suiteOf found)
           go false e = inl (is-suite h (transport (beside ms (k .0) e) k))
 
       -- of the new suite nothing is decided, of the others what was
       decided : (q : Decisions → ℕ) (F : Suite → Permission → Type 0) → q undecided ≡ 0 → Agrees (s .slots) q F
           → Agrees with-it q (For i (In 0) F)
-      decided q F zero agree j z k = go (same j i) refl
+      decided q F zero agree j z k = go (sameSuite j i) refl
         where
-          go : (b : Bool) → same j i ≡ b → cond b (In 0) (F j) ≡ In (q (find j with-it .decisions))
+          go : (b : Bool) → sameSuite j i ≡ b → cond b (In 0) (F j) ≡ In (q (find j with-it .decisions))
           go true e =
               ap In (sym zero) ∙ ap (λ t. In (q (t .decisions))) (sym found)
               ∙ ap (λ j. In (q (find j with-it .decisions))) (sym (same-suite j i e))
           go false e = put-agrees noSuite y (s .slots) q F agree j (same-sym j noSuite z) (same-sym j i e) z k
 
-    pub install-follows : same i noSuite ≡ false → Simulated f S s (Install i x d) (step f s (Install i x d))
+    pub install-follows : sameSuite i noSuite ≡ false → Simulated f S s (Install i x d) (step f s (Install i x d))
     unfolding step
     install-follows n =
         cases M (carries i (s .slots))
@@ -172,11 +174,11 @@ module _ (f : Fixed) (s : State) (v : valid f s ≡ true) (S : Published.State) 
 
   -- ---- remove
 
-  module _ (i : Suite) (n : same i noSuite ≡ false) where
+  module _ (i : Suite) (n : sameSuite i noSuite ≡ false) where
     abbrev without : List Slot
     without = amend i (λ _. free) (s .slots)
 
-    left : (ms : Published.Suite) → same (ms .id) noSuite ≡ false → ms .id ≢ i → Installed without ms ≡ Installed (s .slots) ms
+    left : (ms : Published.Suite) → sameSuite (ms .id) noSuite ≡ false → ms .id ≢ i → Installed without ms ≡ Installed (s .slots) ms
     left ms z m = installed-put i free (s .slots) ms (same-sym (ms .id) i (not-same (ms .id) i m)) (same-sym (ms .id) noSuite z)
 
     another : (j : Suite) → carries j without ≡ true → j ≢ i
@@ -191,7 +193,7 @@ module _ (f : Fixed) (s : State) (v : valid f s ≡ true) (S : Published.State) 
     remove-follows =
         cases M (not (carries i (s .slots)))
         (λ gone. (S, published (remove i) refl (npre (λ k. no-suite h i (not-true _ gone) (k .1 .0) (k .1 .1) (k .1 .2))), h))
-        (λ there. cases M (same (s .session .suite) i)
+        (λ there. cases M (sameSuite (s .session .suite) i)
         (λ active.
         let e = same-suite (s .session .suite) i active in
         (S, published (remove i) refl (npre (λ k. k .0 (infoOf (s .session)) (one-runs h (rw e n)) e)), h))
@@ -216,7 +218,7 @@ module _ (f : Fixed) (s : State) (v : valid f s ≡ true) (S : Published.State) 
         M : Outcome → Type 2
         M = Simulated f S s (Remove i)
 
-        not-it : same (s .session .suite) i ≡ false → (ses : SessionInfo) → S .session ≡ some ses → ses .id ≢ i
+        not-it : sameSuite (s .session .suite) i ≡ false → (ses : SessionInfo) → S .session ≡ some ses → ses .id ≢ i
         not-it other ses e k =
             let own = the-session (s .session) ses (sym (h .session) ∙ e) .1 in
             eqb-false (s .session .suite .0) (i .0) other ((λ j. own j .id .0) ∙ (λ j. k j .0))

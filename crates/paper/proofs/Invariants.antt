@@ -5,11 +5,11 @@ use mathlib.Core.Option.{Option, none, some, Option·some-ne-none}
 use mathlib.Core.List.{List, [], _∷_, _++_}
 use Prim.Native.Nat.{ℕ}
 use native.Mathlib.Omega.{arith}
-use Rattle.model.specs.declared.Suite.{Suite as SuiteID}
-use Rattle.model.specs.declared.Permission.{Permission}
-use Rattle.model.specs.declared.Domain.{Domain}
-use Rattle.model.specs.declared.Mode.{Mode}
-use Rattle.model.specs.declared.Mode.the-variants.{Oneshot as oneshot, Session as session, Blanket as blanket}
+use Rattle.device.specs.declared.Suite.{Suite as SuiteID}
+use Rattle.device.specs.declared.Permission.{Permission}
+use Rattle.device.specs.declared.Domain.{Domain}
+use Rattle.device.specs.declared.Mode.{Mode}
+use Rattle.device.specs.declared.Mode.the-variants.{Oneshot as oneshot, Session as session, Blanket as blanket}
 use Rattle.paper.specs.Published.{Descriptor, Suite, Policy, SessionInfo, State, Declared, _≤m_, _≀_, Valid}
 use Rattle.paper.specs.Published.{UserAnswer, ua-allow, ua-deny, Response, allowed, denied}
 use Rattle.paper.specs.Published.{Event, start, terminate, request, install, remove, _≡session_, Pre, Pos, Exec, npre, pre}

@@ -6,14 +6,15 @@ use mathlib.Core.List.{[]}
 use mathlib.Core.Option.{some}
 use mathlib.Core.Bool.{true, false, or-true}
 use borrow.Author.Tests.{ltb-true}
-use Rattle.model.specs.declared.Suite.{Suite}
-use Rattle.model.specs.declared.Permission.{Permission}
-use Rattle.model.specs.declared.Mode.{Mode}
-use Rattle.model.specs.declared.Mode.the-variants.{Oneshot as oneshot, Session as session, Blanket as blanket}
-use Rattle.model.specs.declared.Consent.the-variants.{UpTo}
-use Rattle.model.specs.declared.Slot.{Slot}
-use Rattle.model.specs.Device.{isPermission, isSuite, isDomain, isSet, noSuite, same, has}
-use Rattle.model.specs.Policy.{Fixed, offered, highest, admits}
+use Rattle.device.specs.declared.Suite.{Suite}
+use Rattle.device.specs.declared.Permission.{Permission}
+use Rattle.device.specs.declared.Mode.{Mode}
+use Rattle.device.specs.declared.Mode.the-variants.{Oneshot as oneshot, Session as session, Blanket as blanket}
+use Rattle.device.specs.declared.Consent.the-variants.{UpTo}
+use Rattle.device.specs.declared.Slot.{Slot}
+use Rattle.device.specs.Device.{isPermission, isSuite, isDomain, isSet, noSuite, sameSuite, has}
+use Rattle.model.specs.Policy.{Fixed}
+use Rattle.device.specs.Cells.{offered, highest, admits}
 use Rattle.model.specs.State.{State, find}
 use Rattle.model.specs.Valid.{_⇒_, decides, installable, slotSound, valid}
 use Rattle.model.specs.Step.{runningSlot}
@@ -36,7 +37,7 @@ blanket-mode : (c : ℕ) → admits c blanket ≡ true → highest c ≡ UpTo bl
 blanket-mode c k = let (m, e, le) = admitted c blanket k in e ∙ ap UpTo (widest m le)
 
 -- a slot that is right in itself
-sound-offers : (f : Fixed) (x : Slot) → same (x .suite) noSuite ≡ false → slotSound f x ≡ true
+sound-offers : (f : Fixed) (x : Slot) → sameSuite (x .suite) noSuite ≡ false → slotSound f x ≡ true
     → _≀_ (policyOf f) (descriptorOf (x .descriptor)) (x .domain)
 unfolding slotSound installable
 sound-offers f x n k p r =

@@ -5,10 +5,10 @@ use mathlib.Core.Option.{Option, none, some, Option·some-injective, Option·som
 use mathlib.Core.Bool.{Bool, true, false, cond, false≢true}
 use borrow.Author.Tests.{eq-eqb, ne-eqb}
 use Rattle.words.proofs.Sets.{member-none}
-use Rattle.model.specs.declared.Suite.{Suite}
-use Rattle.model.specs.declared.Permission.{Permission}
-use Rattle.model.specs.declared.Session.{Session}
-use Rattle.model.specs.Device.{isPermission, noSuite, same, has}
+use Rattle.device.specs.declared.Suite.{Suite}
+use Rattle.device.specs.declared.Permission.{Permission}
+use Rattle.device.specs.declared.Session.{Session}
+use Rattle.device.specs.Device.{isPermission, noSuite, sameSuite, has}
 use Rattle.model.specs.State.{State, carries, find}
 use Rattle.model.proofs.Tests.{both}
 use Rattle.model.proofs.Slots.{find-suite}
@@ -26,8 +26,8 @@ some-ne-none {a = a} = Option·some-ne-none a
 
 -- there is no other than its own
 pub the-session : (r : Session) (ses : SessionInfo) → sessionOf r ≡ some ses
-    → (same (r .suite) noSuite ≡ false) × (infoOf r ≡ ses)
-the-session r ses = go (same (r .suite) noSuite)
+    → (sameSuite (r .suite) noSuite ≡ false) × (infoOf r ≡ ses)
+the-session r ses = go (sameSuite (r .suite) noSuite)
   where
     go : (b : Bool) → cond b none (some (infoOf r)) ≡ some ses → (b ≡ false) × (infoOf r ≡ ses)
     go true e = absurd (some-ne-none (sym e))
@@ -36,12 +36,12 @@ the-session r ses = go (same (r .suite) noSuite)
 -- ---- decisions by suite number: P for suite i, F for the others
 
 abbrev pub For : Suite → (Permission → Type 0) → (Suite → Permission → Type 0) → Suite → Permission → Type 0
-For i P F j = cond (same j i) P (F j)
+For i P F j = cond (sameSuite j i) P (F j)
 
-pub same-refl : (i : Suite) → same i i ≡ true
+pub same-refl : (i : Suite) → sameSuite i i ≡ true
 same-refl i = eq-eqb (i .0) (i .0) refl
 
-pub not-same : (i j : Suite) → i ≢ j → same i j ≡ false
+pub not-same : (i j : Suite) → i ≢ j → sameSuite i j ≡ false
 not-same i j n = ne-eqb (i .0) (j .0) (λ e. n (λ k. record { 0 = e k }))
 
 pub for-it : (i : Suite) (P : Permission → Type 0) (F : Suite → Permission → Type 0) → For i P F i ≡ P
@@ -53,10 +53,10 @@ for-other i j P F n = rw (not-same j i n)
 -- ---- S ⊑ s
 
 module _ {S : Published.State} {s : State} (h : S ⊑ s) where
-  pub nothing-runs : same (s .session .suite) noSuite ≡ true → S .session ≡ none
+  pub nothing-runs : sameSuite (s .session .suite) noSuite ≡ true → S .session ≡ none
   nothing-runs n = h .session ∙ rw n
 
-  pub one-runs : same (s .session .suite) noSuite ≡ false → S .session ≡ some (infoOf (s .session))
+  pub one-runs : sameSuite (s .session .suite) noSuite ≡ false → S .session ≡ some (infoOf (s .session))
   one-runs n = h .session ∙ rw n
 
   pub is-suite : {ms : Published.Suite} → Installed (s .slots) ms → S .suite ms
@@ -66,12 +66,12 @@ module _ {S : Published.State} {s : State} (h : S ⊑ s) where
   as-slot {ms} = transport (λ j. h .suite j ms)
 
   -- a number that a slot has is an installed suite's, and one that none has is not
-  pub the-suite : (i : Suite) → same i noSuite ≡ false → carries i (s .slots) ≡ true → S .suite (suiteOf (find i (s .slots)))
+  pub the-suite : (i : Suite) → sameSuite i noSuite ≡ false → carries i (s .slots) ≡ true → S .suite (suiteOf (find i (s .slots)))
   the-suite i n k =
       let e = find-suite i (s .slots) k in
       is-suite (rw e n, rw e k, ap (λ j. suiteOf (find j (s .slots))) (sym e))
 
-  pub some-suite : (i : Suite) → same i noSuite ≡ false → carries i (s .slots) ≡ true
+  pub some-suite : (i : Suite) → sameSuite i noSuite ≡ false → carries i (s .slots) ≡ true
       → (ms : Published.Suite) × S .suite ms × (ms .id ≡ i)
   some-suite i n k = (suiteOf (find i (s .slots)), the-suite i n k, find-suite i (s .slots) k)
 

@@ -8,25 +8,26 @@ use mathlib.Core.Bool.{Bool, true, false, not, _&&_, cond, false≢true, or-true
 use borrow.Author.Tests.{eqb-true, eq-eqb, ne-eqb, leb-true, le-leb, not-true, not-false}
 use Rattle.words.specs.Sets.{insert}
 use Rattle.words.proofs.Sets.{member-insert}
-use Rattle.model.specs.declared.Suite.{Suite}
-use Rattle.model.specs.declared.Permission.{Permission}
-use Rattle.model.specs.declared.Mode.{Mode}
-use Rattle.model.specs.declared.Mode.the-variants.{Oneshot as oneshot, Session as session, Blanket as blanket}
-use Rattle.model.specs.declared.UserAnswer.{UserAnswer}
-use Rattle.model.specs.declared.UserAnswer.the-variants.{None, Allow, Deny}
-use Rattle.model.specs.declared.Standing.{Standing}
-use Rattle.model.specs.declared.Standing.the-variants.{Nothing}
-use Rattle.model.specs.declared.Decisions.{Decisions}
-use Rattle.model.specs.declared.Slot.{Slot}
-use Rattle.model.specs.declared.Event.the-variants.{Request}
-use Rattle.model.specs.declared.Response.{Response}
-use Rattle.model.specs.Device.{isPermission, noSuite, same, width}
-use Rattle.model.specs.Policy.{Fixed, unconditional, admits}
+use Rattle.device.specs.declared.Suite.{Suite}
+use Rattle.device.specs.declared.Permission.{Permission}
+use Rattle.device.specs.declared.Mode.{Mode}
+use Rattle.device.specs.declared.Mode.the-variants.{Oneshot as oneshot, Session as session, Blanket as blanket}
+use Rattle.device.specs.declared.UserAnswer.{UserAnswer}
+use Rattle.device.specs.declared.UserAnswer.the-variants.{None, Allow, Deny}
+use Rattle.device.specs.declared.Standing.{Standing}
+use Rattle.device.specs.declared.Standing.the-variants.{Nothing}
+use Rattle.device.specs.declared.Decisions.{Decisions}
+use Rattle.device.specs.declared.Slot.{Slot}
+use Rattle.device.specs.declared.Event.the-variants.{Request}
+use Rattle.device.specs.declared.Response.{Response}
+use Rattle.device.specs.Device.{isPermission, noSuite, sameSuite, width}
+use Rattle.model.specs.Policy.{Fixed}
+use Rattle.device.specs.Cells.{unconditional, admits}
 use Rattle.model.specs.State.{State, find, amend}
 use Rattle.model.specs.Valid.{declared, valid}
-use Rattle.model.specs.Answers.{refused, ALLOWED, DENIED}
+use Rattle.device.specs.Answers.{refused, ALLOWED, DENIED}
 use Rattle.model.specs.Decision.{stands, given, tooWide, settled, decision, grant, revoke}
-use Rattle.model.specs.Step.{answer, running, runningSlot, judged, sessionDeciding, slotDeciding, keep, enter, request, step}
+use Rattle.model.specs.Step.{answer, inSession, runningSlot, judged, sessionDeciding, slotDeciding, keep, enter, request, step}
 use Rattle.model.proofs.Tests.{both, cases, same-sym}
 use Rattle.model.proofs.Slots.{same-suite, carries-deciding, find-deciding}
 use Rattle.model.proofs.Entering.{Taken, taken}
@@ -66,7 +67,7 @@ no-response r e =
     let n = leb-true 16 (r .number) e in
     rw (ne-eqb (r .number) 1 (λ k. omega arith), ne-eqb (r .number) 2 (λ k. omega arith))
 
--- ---- a request of the running suite
+-- ---- a request of the inSession suite
 
 module _ {f : Fixed} {s : State} {S : Published.State} (k : Running f s S) (p : Permission) (is : isPermission p ≡ true) where
   abbrev h : S ⊑ s
@@ -164,9 +165,9 @@ module _ {f : Fixed} {s : State} {S : Published.State} (k : Running f s S) (p : 
   )
 
   stays-for : (G : Suite → Permission → Type 0) (n : ℕ) → G i ≡ In n → G ≡ For i (In n) G
-  stays-for G n e = fun-ext (λ j. go j (same j i) refl)
+  stays-for G n e = fun-ext (λ j. go j (sameSuite j i) refl)
     where
-      go : (j : Suite) (b : Bool) → same j i ≡ b → G j ≡ cond b (In n) (G j)
+      go : (j : Suite) (b : Bool) → sameSuite j i ≡ b → G j ≡ cond b (In n) (G j)
       go j true q = ap G (same-suite j i q) ∙ e
       go j false q = refl
 
@@ -193,9 +194,9 @@ module _ {f : Fixed} {s : State} {S : Published.State} (k : Running f s S) (p : 
 
     decided : (q : Decisions → ℕ) (G : Suite → Permission → Type 0)
         → Agrees (s .slots) q G → Agrees (amend i (slotDeciding d) (s .slots)) q (For i (In (q (d (me .decisions)))) G)
-    decided q G agree j n t = go (same j i) refl
+    decided q G agree j n t = go (sameSuite j i) refl
       where
-        go : (b : Bool) → same j i ≡ b
+        go : (b : Bool) → sameSuite j i ≡ b
             → cond b (In (q (d (me .decisions)))) (G j) ≡ In (q (find j (amend i (slotDeciding d) (s .slots)) .decisions))
         go true e =
             ap (λ x. In (q (x .decisions))) (sym (find-deciding d i (s .slots) (there k)))
@@ -303,7 +304,7 @@ module _ {f : Fixed} {s : State} {S : Published.State} (k : Running f s S) (p : 
 -- ---- a request
 
 module _ (f : Fixed) (s : State) (v : valid f s ≡ true) (S : Published.State) (h : S ⊑ s) (p : Permission) where
-  idle : same (s .session .suite) noSuite ≡ true → (u : UserAnswer) → ¬ Pre (policyOf f) S (Published.request p (answerOf u))
+  idle : sameSuite (s .session .suite) noSuite ≡ true → (u : UserAnswer) → ¬ Pre (policyOf f) S (Published.request p (answerOf u))
   idle n None (ses, e, _) = some-ne-none (sym e ∙ nothing-runs h n)
   idle n (Allow m) (ses, e, _) = some-ne-none (sym e ∙ nothing-runs h n)
   idle n (Deny m) (ses, e, _) = some-ne-none (sym e ∙ nothing-runs h n)
@@ -311,6 +312,6 @@ module _ (f : Fixed) (s : State) (v : valid f s ≡ true) (S : Published.State) 
   pub request-follows : isPermission p ≡ true → (u : UserAnswer) → Simulated f S s (Request p u) (step f s (Request p u))
   unfolding step
   request-follows is u =
-      cases (Simulated f S s (Request p u)) (not (running s))
+      cases (Simulated f S s (Request p u)) (not (inSession s))
       (λ n. (S, published (Published.request p (answerOf u)) refl (npre (idle (not-false _ (not-true _ n)) u)), h))
       (λ n. running-follows (record { right = v; refines = h; run = not-true _ (not-false _ n) }) p is u)

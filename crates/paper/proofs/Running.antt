@@ -4,13 +4,13 @@ use mathlib.Core.Path.{_≡_, refl, sym, ap, _∙_, subst}
 use mathlib.Core.Logic.{_⊎_, inl, inr}
 use mathlib.Core.Option.{some, Option·some-injective}
 use mathlib.Core.Bool.{Bool, true, false, _||_, cond, false≢true, or-true}
-use Rattle.model.specs.declared.Suite.{Suite}
-use Rattle.model.specs.declared.Permission.{Permission}
-use Rattle.model.specs.declared.Mode.the-variants.{Session as session, Blanket as blanket}
-use Rattle.model.specs.declared.Standing.{Standing}
-use Rattle.model.specs.declared.Standing.the-variants.{Nothing, Granted, Revoked}
-use Rattle.model.specs.declared.Slot.{Slot}
-use Rattle.model.specs.Device.{isPermission, noSuite, same, has}
+use Rattle.device.specs.declared.Suite.{Suite}
+use Rattle.device.specs.declared.Permission.{Permission}
+use Rattle.device.specs.declared.Mode.the-variants.{Session as session, Blanket as blanket}
+use Rattle.device.specs.declared.Standing.{Standing}
+use Rattle.device.specs.declared.Standing.the-variants.{Nothing, Granted, Revoked}
+use Rattle.device.specs.declared.Slot.{Slot}
+use Rattle.device.specs.Device.{isPermission, noSuite, sameSuite, has}
 use Rattle.model.specs.Policy.{Fixed}
 use Rattle.model.specs.State.{State, carries, find}
 use Rattle.model.specs.Valid.{declared, valid}
@@ -28,7 +28,7 @@ use Rattle.paper.proofs.Refined.{one-runs, the-suite, as-slot}
 pub record Running (f : Fixed) (s : State) (S : Published.State) : Type 2 where
   pub right : valid f s ≡ true
   pub refines : S ⊑ s
-  pub run : same (s .session .suite) noSuite ≡ false
+  pub run : sameSuite (s .session .suite) noSuite ≡ false
 
 refute : (b : Bool) → ¬ b ≡ true → b ≡ false
 refute true n = absurd (n refl)

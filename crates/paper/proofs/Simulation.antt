@@ -7,10 +7,10 @@ use mathlib.Core.Bool.{true, false}
 use mathlib.Core.List.{List, [], _∷_}
 use lib.Dec.{ltb}
 use borrow.Author.Tests.{ne-eqb, ltb-true}
-use Rattle.model.specs.declared.Suite.{Suite}
-use Rattle.model.specs.declared.Event.{Event}
-use Rattle.model.specs.declared.Event.the-variants.{Unreadable, Install, Remove, Start, Terminate, Request}
-use Rattle.model.specs.Device.{isSuite, noSuite, same}
+use Rattle.device.specs.declared.Suite.{Suite}
+use Rattle.device.specs.declared.Event.{Event}
+use Rattle.device.specs.declared.Event.the-variants.{Unreadable, Install, Remove, Start, Terminate, Request}
+use Rattle.device.specs.Device.{isSuite, noSuite, sameSuite}
 use Rattle.model.specs.Policy.{Fixed}
 use Rattle.model.specs.State.{State}
 use Rattle.model.specs.Valid.{valid}
@@ -30,7 +30,7 @@ refined s = record { suite = refl; session = refl; granted = λ i n k. refl; rev
 
 module _ (f : Fixed) where
   module _ (S : Published.State) (s : State) (v : valid f s ≡ true) (h : S ⊑ s) where
-    numbered : (i : Suite) → isSuite i ≡ true → same i noSuite ≡ false
+    numbered : (i : Suite) → isSuite i ≡ true → sameSuite i noSuite ≡ false
     numbered i k = let n = ltb-true 0 (i .0) (both (ltb 0 (i .0)) (ltb (i .0) 65536) k .0) in ne-eqb (i .0) 0 (λ e. omega arith)
 
     event-follows : (e : Event) → carried e ≡ true → Simulated f S s e (step f s e)

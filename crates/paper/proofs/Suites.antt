@@ -4,13 +4,14 @@ use mathlib.Core.Path.{_≡_, refl, sym, ap, ap₂, _∙_, fun-ext}
 use mathlib.Core.Bool.{Bool, true, false, _||_, cond, false≢true, or-true}
 use mathlib.Core.List.{List, [], _∷_}
 use borrow.Author.Tests.{eqb-true, eq-eqb}
-use Rattle.model.specs.declared.Suite.{Suite}
-use Rattle.model.specs.declared.Permission.{Permission}
-use Rattle.model.specs.declared.Decisions.{Decisions}
-use Rattle.model.specs.declared.Slot.{Slot}
-use Rattle.model.specs.Device.{noSuite, same}
+use Rattle.device.specs.declared.Suite.{Suite}
+use Rattle.device.specs.declared.Permission.{Permission}
+use Rattle.device.specs.declared.Decisions.{Decisions}
+use Rattle.device.specs.declared.Slot.{Slot}
+use Rattle.device.specs.Device.{noSuite, sameSuite}
 use Rattle.model.specs.Policy.{Fixed}
-use Rattle.model.specs.State.{free, carries, find, amend}
+use Rattle.device.specs.Empty.{free}
+use Rattle.model.specs.State.{carries, find, amend}
 use Rattle.model.specs.Valid.{among, slotDecided, slotsValid}
 use Rattle.model.specs.Step.{slotDeciding}
 use Rattle.model.proofs.Tests.{neither, cases, same-sym}
@@ -27,7 +28,7 @@ unfolding find
 find-decided f i lower [] h = slot-undecided f free refl
 find-decided f i lower (x ∷ xs) h =
     let k = taken-apart f lower x xs h in
-    cases (λ y. slotDecided f y ≡ true) (same (x .suite) i) (λ _. k .decided)
+    cases (λ y. slotDecided f y ≡ true) (sameSuite (x .suite) i) (λ _. k .decided)
     (λ _. find-decided f i (x .suite ∷ lower) xs (k .more))
 
 -- ---- slot y is put in place of the first with number i: y is found by its number, which no slot had
@@ -36,7 +37,7 @@ module _ (i : Suite) (y : Slot) where
   pub put-there : (l : List Slot) → carries i l ≡ true → carries (y .suite) (amend i (λ _. y) l) ≡ true
   unfolding amend carries
   put-there [] h = absurd (false≢true h)
-  put-there (x ∷ xs) h = go (same (x .suite) i) h (put-there xs)
+  put-there (x ∷ xs) h = go (sameSuite (x .suite) i) h (put-there xs)
     where
       go : (b : Bool) → (b || carries i xs) ≡ true → (carries i xs ≡ true → carries (y .suite) (amend i (λ _. y) xs) ≡ true)
           → carries (y .suite) (cond b (y ∷ xs) (x ∷ amend i (λ _. y) xs)) ≡ true
@@ -46,25 +47,25 @@ module _ (i : Suite) (y : Slot) where
   pub find-new : (l : List Slot) → carries i l ≡ true → carries (y .suite) l ≡ false → find (y .suite) (amend i (λ _. y) l) ≡ y
   unfolding amend carries find
   find-new [] h n = absurd (false≢true h)
-  find-new (x ∷ xs) h n = go (same (x .suite) i) h (neither (same (x .suite) (y .suite)) (carries (y .suite) xs) n) (find-new xs)
+  find-new (x ∷ xs) h n = go (sameSuite (x .suite) i) h (neither (sameSuite (x .suite) (y .suite)) (carries (y .suite) xs) n) (find-new xs)
     where
-      go : (b : Bool) → (b || carries i xs) ≡ true → (same (x .suite) (y .suite) ≡ false) × (carries (y .suite) xs ≡ false)
+      go : (b : Bool) → (b || carries i xs) ≡ true → (sameSuite (x .suite) (y .suite) ≡ false) × (carries (y .suite) xs ≡ false)
           → (carries i xs ≡ true → carries (y .suite) xs ≡ false → find (y .suite) (amend i (λ _. y) xs) ≡ y)
           → find (y .suite) (cond b (y ∷ xs) (x ∷ amend i (λ _. y) xs)) ≡ y
       go true h n r = rw (eq-eqb (y .suite .0) (y .suite .0) refl)
       go false h n r = rw (n .0) (r h (n .1))
 
 -- a freed slot's number stands in no slot
-pub freed : (f : Fixed) (i : Suite) → same i noSuite ≡ false → (lower : List Suite) (l : List Slot) → slotsValid f lower l ≡ true
+pub freed : (f : Fixed) (i : Suite) → sameSuite i noSuite ≡ false → (lower : List Suite) (l : List Slot) → slotsValid f lower l ≡ true
     → carries i (amend i (λ _. free) l) ≡ false
 unfolding amend carries among
 freed f i n lower [] v = refl
-freed f i n lower (x ∷ xs) v = go (same (x .suite) i) refl (freed f i n (x .suite ∷ lower) xs more)
+freed f i n lower (x ∷ xs) v = go (sameSuite (x .suite) i) refl (freed f i n (x .suite ∷ lower) xs more)
   where
     more : slotsValid f (x .suite ∷ lower) xs ≡ true
     more = taken-apart f lower x xs v .more
 
-    go : (b : Bool) → same (x .suite) i ≡ b → carries i (amend i (λ _. free) xs) ≡ false
+    go : (b : Bool) → sameSuite (x .suite) i ≡ b → carries i (amend i (λ _. free) xs) ≡ false
         → carries i (cond b (free ∷ xs) (x ∷ amend i (λ _. free) xs)) ≡ false
     go true e r =
         rw (same-sym i noSuite n)
@@ -74,27 +75,27 @@ freed f i n lower (x ∷ xs) v = go (same (x .suite) i) refl (freed f i n (x .su
 -- ---- the slot with number i is decided upon
 
 module _ (g : Decisions → Decisions) (i : Suite) where
-  pub find-beside : (j : Suite) → same i j ≡ false → (l : List Slot) → find j (amend i (slotDeciding g) l) ≡ find j l
+  pub find-beside : (j : Suite) → sameSuite i j ≡ false → (l : List Slot) → find j (amend i (slotDeciding g) l) ≡ find j l
   unfolding find amend
   find-beside j n [] = refl
-  find-beside j n (x ∷ xs) = go (same (x .suite) i) refl (find-beside j n xs)
+  find-beside j n (x ∷ xs) = go (sameSuite (x .suite) i) refl (find-beside j n xs)
     where
-      go : (b : Bool) → same (x .suite) i ≡ b → find j (amend i (slotDeciding g) xs) ≡ find j xs
-          → find j (cond b (slotDeciding g x ∷ xs) (x ∷ amend i (slotDeciding g) xs)) ≡ cond (same (x .suite) j) x (find j xs)
+      go : (b : Bool) → sameSuite (x .suite) i ≡ b → find j (amend i (slotDeciding g) xs) ≡ find j xs
+          → find j (cond b (slotDeciding g x ∷ xs) (x ∷ amend i (slotDeciding g) xs)) ≡ cond (sameSuite (x .suite) j) x (find j xs)
       go true e r = rw (eqb-true (x .suite .0) (i .0) e, n)
-      go false e r = ap (cond (same (x .suite) j) x) r
+      go false e r = ap (cond (sameSuite (x .suite) j) x) r
 
   suite-deciding : (j : Suite) (l : List Slot) → suiteOf (find j (amend i (slotDeciding g) l)) ≡ suiteOf (find j l)
   unfolding find amend
   suite-deciding j [] = refl
   suite-deciding j (x ∷ xs) =
-      elim (same (x .suite) i) as
+      elim (sameSuite (x .suite) i) as
       (λ b. suiteOf (find j (cond b (slotDeciding g x ∷ xs) (x ∷ amend i (slotDeciding g) xs)))
-      ≡ suiteOf (cond (same (x .suite) j) x (find j xs))) [
-        | true ↦ elim (same (x .suite) j) as
+      ≡ suiteOf (cond (sameSuite (x .suite) j) x (find j xs))) [
+        | true ↦ elim (sameSuite (x .suite) j) as
             (λ b. suiteOf (cond b (slotDeciding g x) (find j xs)) ≡ suiteOf (cond b x (find j xs)))
             [ true ↦ refl | false ↦ refl ]
-        | false ↦ elim (same (x .suite) j) as
+        | false ↦ elim (sameSuite (x .suite) j) as
             (λ b. suiteOf (cond b x (find j (amend i (slotDeciding g) xs))) ≡ suiteOf (cond b x (find j xs)))
             [ true ↦ refl | false ↦ suite-deciding j xs ]
       ]
@@ -102,21 +103,21 @@ module _ (g : Decisions → Decisions) (i : Suite) where
   -- the installed suites stay
   pub installed-deciding : (l : List Slot) → Installed (amend i (slotDeciding g) l) ≡ Installed l
   installed-deciding l = fun-ext (λ ms.
-      ap₂ (λ c t. (same (ms .id) noSuite ≡ false) × (c ≡ true) × (ms ≡ t))
+      ap₂ (λ c t. (sameSuite (ms .id) noSuite ≡ false) × (c ≡ true) × (ms ≡ t))
       (carries-deciding g i (ms .id) l) (suite-deciding (ms .id) l))
 
 -- ---- the installed suites
 
 -- the suites of the other slots stay
-pub installed-put : (i : Suite) (y : Slot) (l : List Slot) (ms : Published.Suite) → same i (ms .id) ≡ false
-    → same (y .suite) (ms .id) ≡ false → Installed (amend i (λ _. y) l) ms ≡ Installed l ms
+pub installed-put : (i : Suite) (y : Slot) (l : List Slot) (ms : Published.Suite) → sameSuite i (ms .id) ≡ false
+    → sameSuite (y .suite) (ms .id) ≡ false → Installed (amend i (λ _. y) l) ms ≡ Installed l ms
 installed-put i y l ms n m =
-    ap₂ (λ c x. (same (ms .id) noSuite ≡ false) × (c ≡ true) × (ms ≡ suiteOf x))
+    ap₂ (λ c x. (sameSuite (ms .id) noSuite ≡ false) × (c ≡ true) × (ms ≡ suiteOf x))
     (carries-put i (ms .id) y n m l) (find-put i (ms .id) y n m l)
 
 -- and so do their decisions
 pub put-agrees : (i : Suite) (y : Slot) (l : List Slot) (q : Decisions → ℕ) (F : Suite → Permission → Type 0) → Agrees l q F
-    → (j : Suite) → same i j ≡ false → same (y .suite) j ≡ false → same j noSuite ≡ false → carries j (amend i (λ _. y) l) ≡ true
+    → (j : Suite) → sameSuite i j ≡ false → sameSuite (y .suite) j ≡ false → sameSuite j noSuite ≡ false → carries j (amend i (λ _. y) l) ≡ true
     → F j ≡ In (q (find j (amend i (λ _. y) l) .decisions))
 put-agrees i y l q F agree j n m z k =
     agree j z (sym (carries-put i j y n m l) ∙ k) ∙ ap (λ t. In (q (t .decisions))) (sym (find-put i j y n m l))

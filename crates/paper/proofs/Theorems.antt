@@ -5,17 +5,17 @@ use mathlib.Core.Logic.{_≢_}
 use mathlib.Core.Option.{Option, none, some, Option·some-injective}
 use mathlib.Core.Bool.{true}
 use mathlib.Core.List.{List, [], _∷_, map}
-use Rattle.model.specs.declared.Permission.{Permission}
-use Rattle.model.specs.declared.Mode.the-variants.{Session as session}
-use Rattle.model.specs.declared.UserAnswer.{UserAnswer}
-use Rattle.model.specs.declared.UserAnswer.the-variants.{Deny}
-use Rattle.model.specs.declared.Event.{Event}
-use Rattle.model.specs.declared.Event.the-variants.{Unreadable, Install, Remove, Start, Terminate, Request}
+use Rattle.device.specs.declared.Permission.{Permission}
+use Rattle.device.specs.declared.Mode.the-variants.{Session as session}
+use Rattle.device.specs.declared.UserAnswer.{UserAnswer}
+use Rattle.device.specs.declared.UserAnswer.the-variants.{Deny}
+use Rattle.device.specs.declared.Event.{Event}
+use Rattle.device.specs.declared.Event.the-variants.{Unreadable, Install, Remove, Start, Terminate, Request}
 use Rattle.model.specs.Policy.{Fixed}
 use Rattle.model.specs.State.{State}
 use Rattle.model.specs.Valid.{valid}
 use Rattle.model.specs.Events.{readEvent}
-use Rattle.model.specs.Answers.{ALLOWED, DENIED}
+use Rattle.device.specs.Answers.{ALLOWED, DENIED}
 use Rattle.model.specs.Step.{Outcome, step}
 use Rattle.model.specs.Run.{after}
 use Rattle.model.proofs.Kept.{record-kept}

@@ -8,12 +8,12 @@ use mathlib.Core.Logic.{_⊎_, _≢_, Lift}
 use mathlib.Core.Option.{Option, none, some}
 use mathlib.Core.List.{List, [], _∷_}
 use Prim.Native.Nat.{_≤_}
-use Rattle.model.specs.declared.Suite.{Suite as SuiteID}
-use Rattle.model.specs.declared.Permission.{Permission}
-use Rattle.model.specs.declared.Domain.{Domain}
-use Rattle.model.specs.declared.Mode.{Mode}
-use Rattle.model.specs.declared.Mode.the-variants.{Oneshot as oneshot, Session as session, Blanket as blanket}
-use Rattle.model.specs.Device.{width}
+use Rattle.device.specs.declared.Suite.{Suite as SuiteID}
+use Rattle.device.specs.declared.Permission.{Permission}
+use Rattle.device.specs.declared.Domain.{Domain}
+use Rattle.device.specs.declared.Mode.{Mode}
+use Rattle.device.specs.declared.Mode.the-variants.{Oneshot as oneshot, Session as session, Blanket as blanket}
+use Rattle.device.specs.Device.{width}
 
 -- ---- 3.1 sets and constants
 

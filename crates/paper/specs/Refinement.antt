@@ -6,26 +6,27 @@ use mathlib.Core.Bool.{true, false, _&&_, cond}
 use mathlib.Core.Option.{Option, none, some}
 use mathlib.Core.List.{List, [], _∷_}
 use lib.Dec.{eqb}
-use Rattle.model.specs.declared.Suite.{Suite}
-use Rattle.model.specs.declared.Permission.{Permission}
-use Rattle.model.specs.declared.Domain.{Domain}
-use Rattle.model.specs.declared.Consent.the-variants.{UpTo}
-use Rattle.model.specs.declared.UserAnswer.{UserAnswer}
-use Rattle.model.specs.declared.UserAnswer.the-variants.{None, Allow, Deny}
-use Rattle.model.specs.declared.Descriptor.{Descriptor}
-use Rattle.model.specs.declared.Decisions.{Decisions}
-use Rattle.model.specs.declared.Slot.{Slot}
-use Rattle.model.specs.declared.Session.{Session}
-use Rattle.model.specs.declared.Event.{Event}
-use Rattle.model.specs.declared.Event.the-variants.{Unreadable, Install, Remove, Start, Terminate, Request}
-use Rattle.model.specs.declared.Response.{Response}
-use Rattle.model.specs.Device.{isPermission, noSuite, same, has}
-use Rattle.model.specs.Policy.{Fixed, unconditional, highest}
+use Rattle.device.specs.declared.Suite.{Suite}
+use Rattle.device.specs.declared.Permission.{Permission}
+use Rattle.device.specs.declared.Domain.{Domain}
+use Rattle.device.specs.declared.Consent.the-variants.{UpTo}
+use Rattle.device.specs.declared.UserAnswer.{UserAnswer}
+use Rattle.device.specs.declared.UserAnswer.the-variants.{None, Allow, Deny}
+use Rattle.device.specs.declared.Descriptor.{Descriptor}
+use Rattle.device.specs.declared.Decisions.{Decisions}
+use Rattle.device.specs.declared.Slot.{Slot}
+use Rattle.device.specs.declared.Session.{Session}
+use Rattle.device.specs.declared.Event.{Event}
+use Rattle.device.specs.declared.Event.the-variants.{Unreadable, Install, Remove, Start, Terminate, Request}
+use Rattle.device.specs.declared.Response.{Response}
+use Rattle.device.specs.Device.{isPermission, noSuite, sameSuite, has}
+use Rattle.model.specs.Policy.{Fixed}
+use Rattle.device.specs.Cells.{unconditional, highest}
 use Rattle.model.specs.State.{State, carries, find}
 use Rattle.model.specs.Valid.{declared}
 use Rattle.model.specs.Events.{readEvent}
-use Rattle.model.specs.Answers.{ALLOWED, DENIED, BAD-EVENT, NO-ROOM, NOT-DECLARED}
-use Rattle.model.specs.Step.{Outcome, answer, running, runningSlot, step}
+use Rattle.device.specs.Answers.{ALLOWED, DENIED, BAD-EVENT, NO-ROOM, NOT-DECLARED}
+use Rattle.model.specs.Step.{Outcome, answer, inSession, runningSlot, step}
 use Rattle.paper.specs.Published
 use Rattle.paper.specs.Published.{SessionInfo, ua-allow, ua-deny, start, terminate, request, install, remove, Exec}
 
@@ -48,15 +49,15 @@ abbrev pub infoOf : Session → SessionInfo
 infoOf r = record { id = r .suite; granted = In (r .decisions .granted); revoked = In (r .decisions .revoked) }
 
 abbrev pub sessionOf : Session → Option SessionInfo
-sessionOf r = cond (same (r .suite) noSuite) none (some (infoOf r))
+sessionOf r = cond (sameSuite (r .suite) noSuite) none (some (infoOf r))
 
 -- a suite is what the slot with its number says; in a valid state that is one slot
 abbrev pub Installed : List Slot → Published.Suite → Type 1
-Installed l ms = (same (ms .id) noSuite ≡ false) × (carries (ms .id) l ≡ true) × (ms ≡ suiteOf (find (ms .id) l))
+Installed l ms = (sameSuite (ms .id) noSuite ≡ false) × (carries (ms .id) l ≡ true) × (ms ≡ suiteOf (find (ms .id) l))
 
 -- F has one set of each installed suite. Of the others nothing is said: the paper's remove leaves their decisions behind
 abbrev pub Agrees : List Slot → (Decisions → ℕ) → (Suite → Permission → Type 0) → Type 1
-Agrees l set F = (i : Suite) → same i noSuite ≡ false → carries i l ≡ true → F i ≡ In (set (find i l .decisions))
+Agrees l set F = (i : Suite) → sameSuite i noSuite ≡ false → carries i l ≡ true → F i ≡ In (set (find i l .decisions))
 
 -- S ⊑ s
 infix 4 _⊑_
@@ -103,7 +104,7 @@ pub data Departs (s : State) : Event → Outcome → Type 0 where
   -- no event of the paper: 18
   unreadable : Departs s Unreadable (answer BAD-EVENT s)
   -- 004, Figure 2.2, responds `denied`: 26
-  undeclared : {p : Permission} → running s ≡ true → declared (runningSlot s) p ≡ false
+  undeclared : {p : Permission} → inSession s ≡ true → declared (runningSlot s) p ≡ false
       → Departs s (Request p None) (answer NOT-DECLARED s)
   -- the paper's device takes any number of suites: 24
   full : {i : Suite} {x : Descriptor} {d : Domain} → carries noSuite (s .slots) ≡ false

@@ -116,11 +116,11 @@ fn cells() {
 fn found(suite: u16) {
     let policy = policy();
     let state = good();
-    let r = checks::find(&policy, &state, model::Suite(suite));
+    let r = checks::find(&policy, &state, device::Suite(suite));
     line(b"find:");
     print(r.number);
     io::write_all(STDOUT_FILENO, b", the part:");
-    bytes(checks::suite_record(&policy, &state, model::Suite(suite)));
+    bytes(checks::suite_record(&policy, &state, device::Suite(suite)));
 }
 
 fn bytes(part: &[u8]) {

@@ -4,21 +4,22 @@ use mathlib.Core.Bool.{true, false}
 use mathlib.Core.List.{List}
 use Prim.Native.Nat.{ℕ, _≤_, _<_}
 use borrow.Author.Tests.{lt-ltb, le-ltb, eq-eqb, ne-eqb}
-use Rattle.model.specs.declared.Suite.{Suite}
-use Rattle.model.specs.declared.Domain.{Domain}
-use Rattle.model.specs.declared.Descriptor.{Descriptor}
-use Rattle.model.specs.declared.Session.{Session}
-use Rattle.model.specs.declared.Event.the-variants.{Install, Remove, Start, Terminate}
-use Rattle.model.specs.declared.Response.{Response}
-use Rattle.model.specs.Device.{noSuite}
+use Rattle.device.specs.declared.Suite.{Suite}
+use Rattle.device.specs.declared.Domain.{Domain}
+use Rattle.device.specs.declared.Descriptor.{Descriptor}
+use Rattle.device.specs.declared.Session.{Session}
+use Rattle.device.specs.declared.Event.the-variants.{Install, Remove, Start, Terminate}
+use Rattle.device.specs.declared.Response.{Response}
+use Rattle.device.specs.Device.{noSuite}
 use Rattle.model.specs.Policy.{Fixed}
-use Rattle.model.specs.State.{State, withSession, undecided, free, idle, carries, place, readState}
-use Rattle.model.specs.Answers.{DONE, NO-SESSION, BUSY, NOT-INSTALLED, INSTALLED, NOT-OFFERED, NO-ROOM, ACTIVE}
+use Rattle.model.specs.State.{State, withSession, carries, place, readState}
+use Rattle.device.specs.Empty.{undecided, free, idle}
+use Rattle.device.specs.Answers.{DONE, NO-SESSION, BUSY, NOT-INSTALLED, INSTALLED, NOT-OFFERED, NO-ROOM, ACTIVE}
 use Rattle.model.specs.Step.{Outcome, answer, lacking, installed, step}
 use Rattle.model.proofs.Slots.{amend-place}
 use Rattle.store.specs.Holds.{Holds, withSlot}
 use Rattle.store.proofs.Places.{carries-below}
-use Rattle.steps.specs.Did.{Did}
+use Rattle.steps.specs.Did.{Did, placeAfter}
 
 pub did : {o : Outcome} {a r : Response} {s : State} {b : List ℕ} → o ≡ answer a s → r ≡ a → Holds b s → Did o b r
 did e r h = rw e (record { response = r; state = h })
@@ -92,10 +93,19 @@ module _ (f : Fixed) (b : List ℕ) where
       unfolding step
       start-done h = rw (← read, eq-eqb _ _ e, present h)
 
+      pub start-nowhere : 32 ≤ k → 32 ≡ placeAfter s (Start i)
+      start-nowhere h = rw (← read, eq-eqb _ _ e, absent h)
+
+      pub start-there : k < 32 → k ≡ placeAfter s (Start i)
+      start-there h = rw (← read, eq-eqb _ _ e, present h) place-i
+
   module _ (r : Session) (read : r ≡ s .session) where
     pub start-busy : (i : Suite) → (r .suite .0 ≡ 0 → ⊥) → step f s (Start i) ≡ answer BUSY s
     unfolding step
     start-busy i n = rw (← read, ne-eqb _ _ n)
+
+    pub start-beside : (i : Suite) → (r .suite .0 ≡ 0 → ⊥) → 32 ≡ placeAfter s (Start i)
+    start-beside i n = rw (← read, ne-eqb _ _ n)
 
     -- ---- terminate
 

@@ -1,35 +1,34 @@
 -- A request by its tests, what is entered, and that the running suite's slot keeps its place. Assumes nothing.
 use mathlib.Core.Path.{_≡_, refl, ap, sym, _∙_}
-use mathlib.Core.Bool.{Bool, true, false, false≢true}
+use mathlib.Core.Bool.{Bool, true, false, not, _||_, cond, false≢true}
 use mathlib.Core.List.{List}
 use Prim.Native.Nat.{ℕ}
 use lib.ListN.{getD}
 use borrow.Author.Tests.{eq-eqb, ne-eqb}
-use Rattle.model.specs.declared.Permission.{Permission}
-use Rattle.model.specs.declared.Mode.{Mode}
-use Rattle.model.specs.declared.Mode.the-variants.{Oneshot, Session as ForSession, Blanket}
-use Rattle.model.specs.declared.UserAnswer.{UserAnswer}
-use Rattle.model.specs.declared.UserAnswer.the-variants.{None, Allow, Deny}
-use Rattle.model.specs.declared.Standing.{Standing}
-use Rattle.model.specs.declared.Decisions.{Decisions}
-use Rattle.model.specs.declared.Slot.{Slot}
-use Rattle.model.specs.declared.Session.{Session}
-use Rattle.model.specs.declared.Event.the-variants.{Request}
-use Rattle.model.specs.declared.Response.{Response}
+use Rattle.device.specs.declared.Permission.{Permission}
+use Rattle.device.specs.declared.Mode.{Mode}
+use Rattle.device.specs.declared.Mode.the-variants.{Oneshot, Session as ForSession, Blanket}
+use Rattle.device.specs.declared.UserAnswer.{UserAnswer}
+use Rattle.device.specs.declared.UserAnswer.the-variants.{None, Allow, Deny}
+use Rattle.device.specs.declared.Standing.{Standing}
+use Rattle.device.specs.declared.Decisions.{Decisions}
+use Rattle.device.specs.declared.Slot.{Slot}
+use Rattle.device.specs.declared.Session.{Session}
+use Rattle.device.specs.declared.Event.{Event}
+use Rattle.device.specs.declared.Event.the-variants.{Unreadable, Install, Remove, Start, Terminate, Request}
+use Rattle.device.specs.declared.Response.{Response}
 use Rattle.model.specs.Policy.{Fixed}
-use Rattle.model.specs.State.{State, free, place, readState}
+use Rattle.model.specs.State.{State, withSession, carries, place}
+use Rattle.device.specs.Device.{noSuite, sameSuite, slotCount}
+use Rattle.device.specs.Empty.{undecided, free}
 use Rattle.model.specs.Valid.{declared}
-use Rattle.model.specs.Answers.{refused, NO-SESSION}
+use Rattle.device.specs.Answers.{refused, DONE, NO-SESSION, BUSY, NOT-INSTALLED}
 use Rattle.model.specs.Decision.{standing, decision, grant, revoke}
-use Rattle.model.specs.Step.{Outcome, answer, runningSlot, slotDeciding, judged, request, keep, enter, step}
+use Rattle.model.specs.Step.{Outcome, answer, inSession, runningSlot, slotDeciding, judged, request, keep, enter, step}
 use Rattle.model.proofs.Slots.{find-place, amend-place, place-deciding}
-use Rattle.store.specs.Holds.{Holds, withSlot}
+use Rattle.store.specs.Holds.{withSlot}
 use Rattle.steps.specs.declared.Done.{Done}
-use Rattle.steps.specs.Did.{Did, Knows}
-
--- the running suite's place
-abbrev pub runningPlace : State → ℕ
-runningPlace s = place (s .session .suite) (s .slots)
+use Rattle.steps.specs.Did.{Did, runningPlace, Knows, placeAfter}
 
 -- ---- the answer
 
@@ -37,6 +36,14 @@ module _ (f : Fixed) (s : State) (p : Permission) (u : UserAnswer) (r : Session)
   pub request-idle : r .suite .0 ≡ 0 → step f s (Request p u) ≡ answer NO-SESSION s
   unfolding step
   request-idle e = rw (← read, eq-eqb _ _ e)
+
+  pub asked-nowhere : r .suite .0 ≡ 0 → 32 ≡ placeAfter s (Request p u)
+  asked-nowhere e = rw (← read, eq-eqb _ _ e)
+
+  pub asked-there : (r .suite .0 ≡ 0 → ⊥) → runningPlace s ≡ placeAfter s (Request p u)
+  asked-there n =
+      let e : sameSuite (s .session .suite) noSuite ≡ false = rw (← read) (ne-eqb _ _ n) in
+      rw e
 
   module _ (n : r .suite .0 ≡ 0 → ⊥) (k : ℕ) (at : k ≡ runningPlace s) (x : Slot) (slot : x ≡ getD (s .slots) k free) where
     pub its-slot : x ≡ runningSlot s
@@ -73,12 +80,33 @@ enter-place s None p = refl
 enter-place s (Allow m) p = keep-place s m (grant p)
 enter-place s (Deny m) p = keep-place s m (revoke p)
 
--- the place is known in the state that the bytes hold afterwards
-pub knows : (s : State) {t : State} {b : List ℕ} {k : ℕ} → k ≡ runningPlace s → runningPlace t ≡ runningPlace s → Holds b t
-    → Knows (readState b) k
-knows s e same h _ = e ∙ sym same ∙ ap runningPlace (sym (h .read))
+-- the place that an event hands on is known in the state that it leaves
+pub place-known : (f : Fixed) (s : State) (e : Event) → Knows (step f s e .state) (placeAfter s e)
+unfolding step request
+place-known f s Unreadable = λ t. absurd (false≢true t)
+place-known f s (Install i x d) = λ t. absurd (false≢true t)
+place-known f s (Remove i) = λ t. absurd (false≢true t)
+place-known f s Terminate = λ t. absurd (false≢true t)
+place-known f s (Start i) = go (inSession s) (carries i (s .slots))
+  where
+    go : (a c : Bool) → Knows (cond a (answer BUSY s) (cond (not c) (answer NOT-INSTALLED s)
+        (answer DONE (withSession (record { suite = i; decisions = undecided }) s))) .state)
+        (cond (a || not c) slotCount (place i (s .slots)))
+    go true c t = absurd (false≢true t)
+    go false false t = absurd (false≢true t)
+    go false true t = refl
+place-known f s (Request p u) = go (inSession s) (refused j)
+  where
+    j : Response
+    j = judged f (s .session) (runningSlot s) p u
 
--- after another event it is not
-pub unknown-yet : {o : Outcome} {b : List ℕ} {r : Response} {d : Done} → d ≡ record { response = r; at = 32 } → Did o b r
-    → Did o b (d .response) × Knows (readState b) (d .at)
-unknown-yet e h = rw e (h, λ t. absurd (false≢true t))
+    go : (a b : Bool) → Knows (cond (not a) (answer NO-SESSION s) (cond b (answer j s) (answer j (enter u p s))) .state)
+        (cond a (runningPlace s) slotCount)
+    go false b t = absurd (false≢true t)
+    go true true t = refl
+    go true false t = sym (enter-place s u p)
+
+-- it is 32 after an event that hands on none
+pub unknown-yet : {o : Outcome} {b : List ℕ} {r : Response} {d : Done} → d ≡ record { response = r; at = slotCount } → Did o b r
+    → Did o b (d .response) × (d .at ≡ slotCount)
+unknown-yet e h = rw e (h, refl)

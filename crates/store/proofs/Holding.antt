@@ -8,10 +8,10 @@ use native.Mathlib.Omega.{arith}
 use lib.ListN.{length}
 use lib.Seq.{sets, length-sets, set-out}
 use Rattle.words.proofs.Stores.{sets-front, sets-behind}
-use Rattle.model.specs.declared.Slot.{Slot}
-use Rattle.model.specs.declared.Session.{Session}
+use Rattle.device.specs.declared.Slot.{Slot}
+use Rattle.device.specs.declared.Session.{Session}
 use Rattle.model.specs.State.{State, withSession, sessionBytes, slotBytes, slotsBytes, readState, writeState}
-use Rattle.model.proofs.Right.{length-slots}
+use Rattle.model.proofs.Bytes.{length-slots}
 use Rattle.store.specs.Holds.{Holds, WellFormed, withSlot}
 use Rattle.store.proofs.Records.{SlotFits, SessionFits, length-session, slots-beside, slots-set, slotsBytes-set}
 use Rattle.store.proofs.Records.{session-stored, session-beside}

@@ -7,10 +7,10 @@ use native.Mathlib.Omega.{arith}
 use lib.Dec.{eqb, ltb}
 use borrow.Author.Tests.{eq-eqb, ne-eqb}
 use Rattle.words.specs.Numbers.{leAt}
-use Rattle.model.specs.declared.Suite.{Suite}
+use Rattle.device.specs.declared.Suite.{Suite}
 use Rattle.model.specs.State.{carries, place, slotAt, slotsFrom, readState}
 use Rattle.model.proofs.Slots.{carries-place}
-use Rattle.model.proofs.Right.{length-slots}
+use Rattle.model.proofs.Bytes.{length-slots}
 
 -- the number stands in the slots exactly when its place is below 32
 pub carries-below : (b : List ℕ) (i : Suite) → carries i (readState b .slots) ≡ ltb (place i (readState b .slots)) 32

@@ -10,8 +10,8 @@ use lib.Seq.{sets}
 use Rattle.words.specs.Numbers.{leAt, bytesOf}
 use Rattle.words.proofs.Numbers.{leAt-bytes}
 use Rattle.words.proofs.Stores.{sets-front, sets-behind, getD-sets-in, getD-sets-other, leAt-in, leAt-beside}
-use Rattle.model.specs.declared.Slot.{Slot}
-use Rattle.model.specs.declared.Session.{Session}
+use Rattle.device.specs.declared.Slot.{Slot}
+use Rattle.device.specs.declared.Session.{Session}
 use Rattle.model.specs.State.{sessionAt, sessionBytes, slotAt, slotBytes, slotsFrom, slotsBytes}
 
 -- ---- a slot

@@ -12,15 +12,15 @@ use borrow.Author.Tests.{eqb-true, ltb-true, eq-eqb}
 use Rattle.words.specs.Numbers.{leAt, bytesOf}
 use Rattle.words.proofs.Numbers.{leAt-bytes}
 use Rattle.words.proofs.Stores.{sets-behind, sets-front}
-use Rattle.model.specs.declared.Suite.{Suite}
-use Rattle.model.specs.declared.Slot.{Slot}
-use Rattle.model.specs.declared.Session.{Session}
-use Rattle.model.specs.Device.{isSuite, isDomain, isSet, noSuite, same}
+use Rattle.device.specs.declared.Suite.{Suite}
+use Rattle.device.specs.declared.Slot.{Slot}
+use Rattle.device.specs.declared.Session.{Session}
+use Rattle.device.specs.Device.{isSuite, isDomain, isSet, noSuite, sameSuite, slotCount}
 use Rattle.model.specs.Policy.{Fixed}
-use Rattle.model.specs.State.{State, carries, find, sessionAt, sessionZeros, sessionBytes, slotAt, slotZeros, slotBytes}
+use Rattle.model.specs.State.{State, carries, find, stateSize, sessionAt, sessionZeros, sessionBytes, slotAt, slotZeros, slotBytes}
 use Rattle.model.specs.State.{slotsFrom, slotsBytes, readState, writeState}
 use Rattle.model.specs.Valid.{clear, blank, installable, slotSound, slotDecided, slotValid, slotsValid, sessionSound}
-use Rattle.model.specs.Valid.{sessionDecided, sessionValid, valid, slotsRight, stateRight}
+use Rattle.model.specs.Valid.{sessionDecided, sessionValid, valid, slotsZeros, zeroBytes, stateValid}
 use Rattle.model.proofs.Tests.{both, all-three}
 use Rattle.model.proofs.ValidSlots.{taken-apart, find-sound}
 use Rattle.model.proofs.Slots.{find-suite}
@@ -71,15 +71,15 @@ session-zeros-there r q =
 
 suite-fits : (f : Fixed) (x : Slot) → slotSound f x ≡ true → x .suite .0 < 256 ^ 2
 unfolding slotSound installable
-suite-fits f x h = go (same (x .suite) noSuite) refl h
+suite-fits f x h = go (sameSuite (x .suite) noSuite) refl h
   where
-    go : (b : Bool) → same (x .suite) noSuite ≡ b → cond b (blank x) (installable f x) ≡ true → x .suite .0 < 256 ^ 2
+    go : (b : Bool) → sameSuite (x .suite) noSuite ≡ b → cond b (blank x) (installable f x) ≡ true → x .suite .0 < 256 ^ 2
     go true e h = omega (arith, eqb-true (x .suite .0) 0 e)
     go false e h = ltb-true _ _ (both (ltb 0 (x .suite .0)) (ltb (x .suite .0) 65536) (both (isSuite (x .suite)) _ h .0) .1)
 
 slot-fits : (f : Fixed) (x : Slot) → slotSound f x ≡ true → slotDecided f x ≡ true → SlotFits x
 unfolding slotSound installable slotDecided
-slot-fits f x sound decided = go (same (x .suite) noSuite) sound
+slot-fits f x sound decided = go (sameSuite (x .suite) noSuite) sound
   where
     sets-fit : (x .decisions .granted < 256 ^ 8) × (x .decisions .revoked < 256 ^ 8)
     sets-fit =
@@ -112,12 +112,12 @@ unfolding sessionValid sessionSound sessionDecided
 session-fits f s slots h =
     let (sound, decided) = both (sessionSound s) _ h in
     let (g, v, _) = all-three (isSet (s .session .decisions .granted)) (isSet (s .session .decisions .revoked)) _ decided in
-    record { suite = go (same i noSuite) refl sound; granted = ltb-true _ _ g; revoked = ltb-true _ _ v }
+    record { suite = go (sameSuite i noSuite) refl sound; granted = ltb-true _ _ g; revoked = ltb-true _ _ v }
   where
     i : Suite
     i = s .session .suite
 
-    go : (b : Bool) → same i noSuite ≡ b → cond b (clear (s .session .decisions)) (carries i (s .slots)) ≡ true → i .0 < 256 ^ 2
+    go : (b : Bool) → sameSuite i noSuite ≡ b → cond b (clear (s .session .decisions)) (carries i (s .slots)) ≡ true → i .0 < 256 ^ 2
     go true e h = omega (arith, eqb-true (i .0) 0 e)
     go false e h =
         rw (find-suite i (s .slots) h) at (suite-fits f (find i (s .slots)) (find-sound f i [] (s .slots) slots))
@@ -125,50 +125,44 @@ session-fits f s slots h =
 -- ---- the state
 
 slots-written : (f : Fixed) (lower : List Suite) (p : List ℕ) (xs : List Slot) → slotsValid f lower xs ≡ true
-    → (slotsRight f (p ++ slotsBytes xs) lower (length xs) (length p) ≡ true)
+    → (slotsZeros (p ++ slotsBytes xs) (length xs) (length p) ≡ true)
     × (slotsFrom (p ++ slotsBytes xs) (length xs) (length p) ≡ xs)
-unfolding slotsRight slotsFrom slotsBytes slotValid
+unfolding slotsZeros slotsFrom slotsBytes
 slots-written f lower p [] h = (refl, refl)
 slots-written f lower p (x ∷ xs) h =
     let k = taken-apart f lower x xs h in
-    let z = slot-fits f x (k .sound) (k .decided) in
     let q = slotsBytes xs in
-    let there = slot-there p x q z in
     let n : length (p ++ slotBytes x) ≡ length p + 40 = rw (length-append, length-slot x) in
-    let (right, read) = rw (append-assoc p (slotBytes x) q, n) at (slots-written f (x .suite ∷ lower)
+    let (zeros, read) = rw (append-assoc p (slotBytes x) q, n) at (slots-written f (x .suite ∷ lower)
     (p ++ slotBytes x) xs (k .more)) in
-    (rw (slot-zeros-there p x q, there, k .sound, k .own, k .decided) right, ap₂ _∷_ there read)
+    (rw (slot-zeros-there p x q) zeros, ap₂ _∷_ (slot-there p x q (slot-fits f x (k .sound) (k .decided))) read)
 
 module _ (f : Fixed) (s : State) (h : valid f s ≡ true) where
   record Parts : Type 0 where
-    sized : length (writeState s) ≡ 1320
-    slots : slotsRight f (writeState s) [] 32 40 ≡ true
-    zeros : sessionZeros (writeState s) ≡ true
+    sized : length (writeState s) ≡ stateSize
+    zeros : zeroBytes (writeState s) ≡ true
     read : readState (writeState s) ≡ s
-    session : sessionValid f s ≡ true
 
   parts : Parts
-  unfolding valid readState writeState
+  unfolding valid readState writeState zeroBytes
   parts =
-      let (count, slots, session) = all-three (eqb (length (s .slots)) 32) (slotsValid f [] (s .slots)) _ h in
-      let n = eqb-true (length (s .slots)) 32 count in
+      let (count, slots, session) = all-three (eqb (length (s .slots)) slotCount) (slotsValid f [] (s .slots)) _ h in
+      let n = eqb-true (length (s .slots)) slotCount count in
       let b = sessionBytes (s .session) in
-      let (right, read) = rw (n, length-session (s .session)) at (slots-written f [] b (s .slots) slots) in
+      let (zeros, read) = rw (n, length-session (s .session)) at (slots-written f [] b (s .slots) slots) in
       record {
         sized = rw (length-append, length-session (s .session), length-slotsBytes (s .slots), n);
-        slots = right;
-        zeros = session-zeros-there (s .session) (slotsBytes (s .slots));
+        zeros = rw (zeros, session-zeros-there (s .session) (slotsBytes (s .slots)));
         read = λ i. record {
-          session = session-there (s .session) (slotsBytes (s .slots))
-              (session-fits f s slots session) i;
+          session = session-there (s .session) (slotsBytes (s .slots)) (session-fits f s slots session) i;
           slots = read i;
         };
-        session = session;
       }
 
   pub valid-holds : Holds (writeState s) s
   valid-holds = record { sized = parts .sized; read = parts .read; written = refl }
 
-  pub valid-right : stateRight f (writeState s) ≡ true
-  unfolding stateRight
-  valid-right = rw (eq-eqb _ _ (parts .sized), parts .slots, parts .zeros, parts .read) (parts .session)
+  -- the bytes of a valid state are valid
+  pub valid-written : stateValid f (writeState s) ≡ true
+  unfolding stateValid
+  valid-written = rw (eq-eqb _ _ (parts .sized), parts .zeros, parts .read, h)

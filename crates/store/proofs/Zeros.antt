@@ -1,4 +1,4 @@
--- Right bytes are well formed: a record whose other bytes are zero is the record of what it says. Assumes nothing.
+-- Valid bytes are well formed: a record whose other bytes are zero is the record of what it says. Assumes nothing.
 use mathlib.Core.Path.{_≡_, refl, sym, ap, _∙_}
 use mathlib.Core.Bool.{true}
 use mathlib.Core.List.{List, [], _∷_, _++_}
@@ -10,13 +10,13 @@ use lib.Dec.{eqb}
 use borrow.Author.Tests.{eqb-true}
 use Rattle.words.specs.Numbers.{leAt, bytesOf}
 use Rattle.words.proofs.Stores.{sets-field, sets-whole}
-use Rattle.model.specs.declared.Suite.{Suite}
+use Rattle.device.specs.Device.{slotCount}
 use Rattle.model.specs.Policy.{Fixed}
 use Rattle.model.specs.State.{recordSize, stateSize, sessionAt, sessionZeros, sessionBytes, slotAt, slotZeros, slotBytes}
 use Rattle.model.specs.State.{slotsFrom, slotsBytes, readState, writeState}
-use Rattle.model.specs.Valid.{slotValid, sessionValid, slotsRight, stateRight}
+use Rattle.model.specs.Valid.{valid, slotsZeros, zeroBytes, stateValid}
 use Rattle.model.proofs.Tests.{both, all-three}
-use Rattle.model.proofs.Right.{length-slots}
+use Rattle.model.proofs.Bytes.{length-slots}
 use Rattle.store.specs.Holds.{WellFormed}
 use Rattle.store.proofs.Records.{length-session, length-slotsBytes}
 
@@ -42,14 +42,12 @@ module _ (b : List ℕ) (bytes : (k : ℕ) → getD b k 0 < 256) where
       ∙ ap (λ (l : List ℕ). sets l (suc (a + 2)) r3) (set-getD b (a + 2) 0) ∙ ap (λ (n : ℕ). sets b n r3) (omega arith)
       ∙ zeros a 5 3 r8 h ∙ field a 8 8 r16 ∙ field a 8 16 r24 ∙ field a 8 24 r32 ∙ field a 8 32 vs
 
-  slots-kept : (f : Fixed) (lower : List Suite) (n a : ℕ) → slotsRight f b lower n a ≡ true
-      → sets b a (slotsBytes (slotsFrom b n a)) ≡ b
-  unfolding slotsFrom slotsBytes slotsRight
-  slots-kept f lower zero a h = refl
-  slots-kept f lower (suc n) a h =
-      let (z, _, more) = all-three (slotZeros b a) (slotValid f lower (slotAt b a)) _ h in
-      slot-kept a (slotsBytes (slotsFrom b n (a + recordSize))) z
-      ∙ slots-kept f (slotAt b a .suite ∷ lower) n (a + recordSize) more
+  slots-kept : (n a : ℕ) → slotsZeros b n a ≡ true → sets b a (slotsBytes (slotsFrom b n a)) ≡ b
+  unfolding slotsFrom slotsBytes slotsZeros
+  slots-kept zero a h = refl
+  slots-kept (suc n) a h =
+      let (z, more) = both (slotZeros b a) (slotsZeros b n (a + recordSize)) h in
+      slot-kept a (slotsBytes (slotsFrom b n (a + recordSize))) z ∙ slots-kept n (a + recordSize) more
 
   session-kept : (vs : List ℕ) → sessionZeros b ≡ true → sets b 0 (sessionBytes (sessionAt b) ++ vs) ≡ sets b 40 vs
   unfolding sessionAt sessionBytes sessionZeros bytesOf
@@ -60,17 +58,17 @@ module _ (b : List ℕ) (bytes : (k : ℕ) → getD b k 0 < 256) where
       let r8 = bytesOf 8 (leAt 8 b 8) ++ r16 in
       field 0 2 0 (bytesOf 6 0 ++ r8) ∙ zeros 0 6 2 r8 low ∙ field 0 8 8 r16 ∙ field 0 8 16 r24 ∙ zeros 0 16 24 vs high
 
-  pub right-formed : (f : Fixed) → stateRight f b ≡ true → WellFormed b
-  unfolding stateRight readState writeState
-  right-formed f h =
-      let (size, slots, rest) = all-three (eqb (length b) stateSize) (slotsRight f b [] 32 40) _ h in
+  pub well-formed : (f : Fixed) → stateValid f b ≡ true → WellFormed b
+  unfolding stateValid zeroBytes readState writeState
+  well-formed f h =
+      let (size, zeros, _) = all-three (eqb (length b) stateSize) (zeroBytes b) (valid f (readState b)) h in
+      let (slots, session) = both (slotsZeros b slotCount recordSize) (sessionZeros b) zeros in
       let n = eqb-true (length b) stateSize size in
-      let z = both (sessionZeros b) (sessionValid f (readState b)) rest .0 in
-      let w = sessionBytes (sessionAt b) ++ slotsBytes (slotsFrom b 32 40) in
-      let e : length w ≡ length b =
-      simp (length-append, length-session (sessionAt b), length-slotsBytes (slotsFrom b 32 40), length-slots b 32 40, n) in
+      let l = slotsFrom b slotCount recordSize in
+      let e : length (sessionBytes (sessionAt b) ++ slotsBytes l) ≡ length b =
+      simp (length-append, length-session (sessionAt b), length-slotsBytes l, length-slots b slotCount recordSize, n) in
       record {
         sized = n;
         read = refl;
-        written = sym (session-kept (slotsBytes (slotsFrom b 32 40)) z ∙ slots-kept f [] 32 40 slots) ∙ sets-whole b w e;
+        written = sym (session-kept (slotsBytes l) session ∙ slots-kept slotCount recordSize slots) ∙ sets-whole b _ e;
       }

@@ -3,7 +3,7 @@ use Prim.Native.Nat.{ℕ}
 use mathlib.Core.Path.{_≡_}
 use mathlib.Core.List.{List}
 use lib.ListN.{length, set}
-use Rattle.model.specs.declared.Slot.{Slot}
+use Rattle.device.specs.declared.Slot.{Slot}
 use Rattle.model.specs.State.{State, withSlots, stateSize, readState, writeState}
 
 -- the bytes b hold the state s: they say it, and they are its bytes

@@ -3,25 +3,33 @@ ghost use mathlib.Core.Path.{_≡_};
 ghost use Prim.Native.Nat.{_+_, _≤_};
 ghost use lib.ListN.{length, getD};
 ghost use lib.Seq.{sets};
-ghost use Rattle.model.specs.State.{stateSize, withSession, free, place, readState};
+ghost use Rattle.device.specs.Empty.{free};
+ghost use Rattle.model.specs.State.{recordSize, stateSize, withSession, place, readState};
 ghost use Rattle.model.specs.State.{sessionBytes, sessionZeros, slotAt, slotBytes, slotZeros};
 ghost use Rattle.store.specs.Holds.{Holds, WellFormed, withSlot};
 
-fn slot_at(state: &[u8], a: usize) -> model::Slot
-    requires { ⌜ a + 40 ≤ length (now state) ⌝ }
+// A record for the session, and behind it one for each slot.
+pub const RECORD_SIZE: usize = 40;
+
+pub const SLOT_COUNT: usize = 32;
+
+pub const STATE_SIZE: usize = RECORD_SIZE * (SLOT_COUNT + 1);
+
+fn slot_at(state: &[u8], a: usize) -> device::Slot
+    requires { ⌜ a + recordSize ≤ length (now state) ⌝ }
     ensures { λ r. ⌜ r ≡ slotAt (now (state .entry)) a ⌝ }
 {
-    let suite = model::Suite(words::read16(state, a));
-    let domain = model::Domain(state[a + 2]);
-    let descriptor = model::Descriptor {
+    let suite = device::Suite(words::read16(state, a));
+    let domain = device::Domain(state[a + 2]);
+    let descriptor = device::Descriptor {
         required: words::read64(state, a + 8),
         optional: words::read64(state, a + 16),
     };
-    let decisions = model::Decisions {
+    let decisions = device::Decisions {
         granted: words::read64(state, a + 24),
         revoked: words::read64(state, a + 32),
     };
-    model::Slot {
+    device::Slot {
         suite,
         domain,
         descriptor,
@@ -29,8 +37,8 @@ fn slot_at(state: &[u8], a: usize) -> model::Slot
     }
 }
 
-fn put_slot(state: &mut [u8], a: usize, x: model::Slot)
-    requires { ⌜ a + 40 ≤ length (now state) ⌝ }
+fn put_slot(state: &mut [u8], a: usize, x: device::Slot)
+    requires { ⌜ a + recordSize ≤ length (now state) ⌝ }
     ensures { λ _. ⌜ now (state .exit) ≡ sets (now (state .entry)) a (slotBytes x) ⌝ }
 {
     let suite = x.suite;
@@ -47,7 +55,7 @@ fn put_slot(state: &mut [u8], a: usize, x: model::Slot)
     words::write64(state, a + 32, decisions.revoked);
 }
 
-fn put_session(state: &mut [u8], r: model::Session)
+fn put_session(state: &mut [u8], r: device::Session)
     requires { ⌜ length (now state) ≡ stateSize ⌝ }
     ensures { λ _. ⌜ now (state .exit) ≡ sets (now (state .entry)) 0 (sessionBytes r) ⌝ }
 {
@@ -62,30 +70,30 @@ fn put_session(state: &mut [u8], r: model::Session)
     words::write64(state, 32, 0);
 }
 
-pub fn read_session(state: &[u8]) -> model::Session
+pub fn read_session(state: &[u8]) -> device::Session
     requires { ⌜ length (now state) ≡ stateSize ⌝ }
     ensures { λ r. ⌜ r ≡ readState (now (state .entry)) .session ⌝ }
 {
-    let suite = model::Suite(words::read16(state, 0));
-    let decisions = model::Decisions {
+    let suite = device::Suite(words::read16(state, 0));
+    let decisions = device::Decisions {
         granted: words::read64(state, 8),
         revoked: words::read64(state, 16),
     };
-    model::Session { suite, decisions }
+    device::Session { suite, decisions }
 }
 
 // Slot k, from 0; a free one where there is none.
-pub fn read_slot(state: &[u8], k: usize) -> model::Slot
+pub fn read_slot(state: &[u8], k: usize) -> device::Slot
     requires { ⌜ length (now state) ≡ stateSize ⌝ }
     ensures { λ r. ⌜ r ≡ getD (readState (now (state .entry)) .slots) k free ⌝ }
 {
-    if 32 <= k {
-        return model::Slot::free();
+    if SLOT_COUNT <= k {
+        return device::Slot::free();
     }
-    slot_at(state, 40 + 40 * k)
+    slot_at(state, RECORD_SIZE + RECORD_SIZE * k)
 }
 
-pub fn write_session(state: &mut [u8], r: model::Session)
+pub fn write_session(state: &mut [u8], r: device::Session)
     requires { ⌜ WellFormed (now state) ⌝ }
     ensures { λ _. ⌜ Holds (now (state .exit)) (withSession r (readState (now (state .entry)))) ⌝ }
 {
@@ -93,24 +101,24 @@ pub fn write_session(state: &mut [u8], r: model::Session)
 }
 
 // Slot k, from 0; nothing where there is none.
-pub fn write_slot(state: &mut [u8], k: usize, x: model::Slot)
+pub fn write_slot(state: &mut [u8], k: usize, x: device::Slot)
     requires { ⌜ WellFormed (now state) ⌝ }
     ensures { λ _. ⌜ Holds (now (state .exit)) (withSlot k x (readState (now (state .entry)))) ⌝ }
 {
-    if k < 32 {
-        put_slot(state, 40 + 40 * k, x);
+    if k < SLOT_COUNT {
+        put_slot(state, RECORD_SIZE + RECORD_SIZE * k, x);
     }
 }
 
 // The place of the first slot with that number, from 0, or 32; of suite 0, that of the lowest free slot.
-pub fn place_of(state: &[u8], suite: model::Suite) -> usize
+pub fn place_of(state: &[u8], suite: device::Suite) -> usize
     requires { ⌜ length (now state) ≡ stateSize ⌝ }
     ensures { λ r. ⌜ r ≡ place suite (readState (now (state .entry)) .slots) ⌝ }
 {
     let n = suite.0;
     let mut k: usize = 0;
-    while k < 32 {
-        if words::read16(state, 40 + 40 * k) == n {
+    while k < SLOT_COUNT {
+        if words::read16(state, RECORD_SIZE + RECORD_SIZE * k) == n {
             return k;
         }
         k += 1;
@@ -129,7 +137,7 @@ pub fn session_zeros(state: &[u8]) -> bool
 
 // The same of the slot record that begins at place a.
 pub fn slot_zeros(state: &[u8], a: usize) -> bool
-    requires { ⌜ a + 40 ≤ length (now state) ⌝ }
+    requires { ⌜ a + recordSize ≤ length (now state) ⌝ }
     ensures { λ r. ⌜ r ≡ slotZeros (now (state .entry)) a ⌝ }
 {
     (state[a + 3] == 0) & (words::read32(state, a + 4) == 0)

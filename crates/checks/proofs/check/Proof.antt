@@ -7,7 +7,7 @@ use Rattle.checks.proofs.check.Tie as tie
 
 returns : tie.Need-returns
 unfolding checkCall
-returns c = rw (← c .before .before .check-policy .ensures, c .before .if1 .taken, c .plain .ensures)
+returns c = rw (← c .before .before .check-policy .ensures, c .before .if1 .taken, c .bad-policy .ensures)
 
 passed-policy : tie.Need-check-state-requires
 passed-policy c κs = sym (c .before .check-policy .ensures) ∙ not-false _ (c .if1 .left)
@@ -21,7 +21,7 @@ returns-2 c =
       s .before .if1 .left,
       ← s .check-state .ensures,
       c .before .if2 .taken,
-      c .plain2 .ensures,
+      c .bad-state .ensures,
     )
 
 returns-3 : tie.Need-returns-3
@@ -33,7 +33,7 @@ returns-3 c =
       s .before .if1 .left,
       ← s .check-state .ensures,
       c .before .if2 .left,
-      c .plain3 .ensures,
+      c .done .ensures,
     )
 
 pub check-spec : {M : Type 1} → statement M

@@ -9,11 +9,11 @@ unfolding newCall
 returns c =
     let d = c .before .before .before in
     let t = d .before .before in
-    rw (eq-eqb _ _ (t .if1 .taken), c .plain .ensures, d .wipe .ensures, t .if1 .taken)
+    rw (eq-eqb _ _ (t .if1 .taken), c .done .ensures, d .wipe .ensures, t .if1 .taken)
 
 returns-2 : tie.Need-returns-2
 unfolding newCall
-returns-2 c = rw (ne-eqb _ _ (c .before .if1 .left), c .plain2 .ensures)
+returns-2 c = rw (ne-eqb _ _ (c .before .if1 .left), c .bad-state .ensures)
 
 pub new-state-spec : {M : Type 1} → statement M
 new-state-spec =

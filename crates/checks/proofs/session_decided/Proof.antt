@@ -1,6 +1,6 @@
 use mathlib.Core.Path.{ap}
 use borrow.Author.Needs.{needs}
-use Rattle.model.specs.declared.Mode.the-variants.{Session}
+use Rattle.device.specs.declared.Mode.the-variants.{Session}
 use Rattle.model.specs.Valid.{sessionDecided}
 use Rattle.checks.specs.Rows.{rowOf}
 use Rattle.checks.proofs.Sessions.{beside-words}

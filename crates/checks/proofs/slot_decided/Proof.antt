@@ -1,6 +1,6 @@
 use mathlib.Core.Path.{ap}
 use borrow.Author.Needs.{needs}
-use Rattle.model.specs.declared.Mode.the-variants.{Blanket}
+use Rattle.device.specs.declared.Mode.the-variants.{Blanket}
 use Rattle.model.specs.Valid.{slotDecided}
 use Rattle.checks.specs.Rows.{rowOf}
 use Rattle.checks.proofs.slot_decided.Statement.{statement}

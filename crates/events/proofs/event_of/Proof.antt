@@ -1,6 +1,6 @@
 use borrow.Author.Needs.{needs}
 use borrow.Author.Tests.{ne-eqb}
-use Rattle.events.specs.Fields.{eventOf}
+use Rattle.model.specs.Events.{eventOf}
 use Rattle.events.proofs.event_of.Statement.{statement}
 use Rattle.events.proofs.event_of.Tie as tie
 

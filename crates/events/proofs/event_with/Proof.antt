@@ -1,13 +1,13 @@
 use mathlib.Core.Path.{ap, _∙_}
 use borrow.Author.Needs.{needs}
-use Rattle.model.specs.Events.{layout, readEvent}
-use Rattle.events.specs.Fields.{fieldBytes}
+use Rattle.model.specs.Events.{readEvent}
+use Rattle.model.specs.Events.{fieldBytes}
 use Rattle.events.proofs.event_with.Statement.{statement}
 use Rattle.events.proofs.event_with.Tie as tie
 
 returns : tie.Need-returns
-unfolding layout fieldBytes
-returns c = c .read-event .ensures ∙ ap readEvent (c .before .before .before .put-fields .ensures)
+unfolding fieldBytes
+returns c = ap (λ r. r .event) (c .read-event .ensures) ∙ ap readEvent (c .before .before .before .put-fields .ensures)
 
 pub event-with-spec : {M : Type 1} → statement M
 event-with-spec =

@@ -1,5 +1,5 @@
 use borrow.Author.Needs.{needs}
-use Rattle.events.specs.Fields.{fieldsAt}
+use Rattle.model.specs.Events.{fieldsAt}
 use Rattle.events.proofs.fields_at.Statement.{statement}
 use Rattle.events.proofs.fields_at.Tie as tie
 

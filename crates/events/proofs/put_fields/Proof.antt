@@ -3,7 +3,7 @@ use mathlib.Core.Path.{sym}
 use borrow.Author.Needs.{needs}
 use Rattle.words.specs.Numbers.{bytesOf}
 use Rattle.words.proofs.Stores.{sets-whole}
-use Rattle.events.specs.Fields.{fieldBytes}
+use Rattle.model.specs.Events.{fieldBytes}
 use Rattle.events.proofs.put_fields.Statement.{statement}
 use Rattle.events.proofs.put_fields.Tie as tie
 

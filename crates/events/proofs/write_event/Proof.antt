@@ -4,7 +4,6 @@ use borrow.Author.Needs.{needs}
 use borrow.Author.Tests.{eq-eqb, ne-eqb}
 use Rattle.model.specs.Events.{carried}
 use Rattle.model.specs.Calls.{writeCall}
-use Rattle.events.proofs.Laws.{bytes-written}
 use Rattle.events.proofs.write_event.Statement.{statement}
 use Rattle.events.proofs.write_event.Tie as tie
 
@@ -18,10 +17,9 @@ returns c =
     rw (
       good,
       eq-eqb _ _ (t .if2 .taken),
-      c .plain .ensures,
+      c .done .ensures,
       p .put-fields .ensures,
       p .before .fields-of .ensures,
-      bytes-written (a .event) good,
     )
 
 returns-2 : tie.Need-returns-2
@@ -29,13 +27,13 @@ unfolding writeCall
 returns-2 c =
     let t = c .before in
     let good = sym (t .before .before .fits2 .ensures) ∙ t .before .if1 .taken in
-    rw (good, ne-eqb _ _ (t .if2 .left), c .plain2 .ensures)
+    rw (good, ne-eqb _ _ (t .if2 .left), c .bad-length .ensures)
 
 returns-3 : tie.Need-returns-3
 unfolding writeCall
 returns-3 c =
     let bad = sym (c .before .before .fits2 .ensures) ∙ c .before .if1 .left in
-    rw (bad, c .plain3 .ensures)
+    rw (bad, c .bad-event .ensures)
 
 pub write-event-spec : {M : Type 1} → statement M
 write-event-spec =

@@ -4,7 +4,7 @@ use Prim.Native.Nat.{ℕ}
 use lib.ListN.{length, replicate}
 use borrow.Author.Needs.{needs}
 use borrow.Author.Tests.{eq-eqb}
-use Rattle.model.specs.declared.Response.{Response}
+use Rattle.device.specs.declared.Response.{Response}
 use Rattle.model.specs.Calls.{leaving, newCall}
 use Rattle.reports.proofs.run_new.Statement.{statement}
 use Rattle.reports.proofs.run_new.Tie as tie

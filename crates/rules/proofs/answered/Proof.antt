@@ -3,13 +3,13 @@ use Rattle.rules.proofs.answered.Statement.{statement}
 use Rattle.rules.proofs.answered.Tie as tie
 
 returns : tie.Need-returns
-returns c = rw (c .before .enum-told .given .1, c .detailed .ensures)
+returns c = rw (c .before .enum-told .given .1, c .ask .ensures)
 
 returns-2 : tie.Need-returns-2
-returns-2 c = rw (c .before .before .u .given .1, c .plain .ensures)
+returns-2 c = rw (c .before .before .u .given .1, c .allowed .ensures)
 
 returns-3 : tie.Need-returns-3
-returns-3 c = rw (c .before .before .u2 .given .1, c .plain2 .ensures)
+returns-3 c = rw (c .before .before .u2 .given .1, c .denied .ensures)
 
 pub answered-spec : {M : Type 1} → statement M
 answered-spec =

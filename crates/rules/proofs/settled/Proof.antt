@@ -6,10 +6,10 @@ returns : tie.Need-returns
 returns c = rw (c .before .enum-told .given .1, c .answered .ensures)
 
 returns-2 : tie.Need-returns-2
-returns-2 c = rw (c .before .enum-told2 .given .1, c .plain .ensures)
+returns-2 c = rw (c .before .enum-told2 .given .1, c .allowed .ensures)
 
 returns-3 : tie.Need-returns-3
-returns-3 c = rw (c .before .enum-told3 .given .1, c .plain2 .ensures)
+returns-3 c = rw (c .before .enum-told3 .given .1, c .denied .ensures)
 
 pub settled-spec : {M : Type 1} → statement M
 settled-spec =

@@ -11,7 +11,7 @@ returns c =
     let a = t .args in
     did (install-again (fixedBy (a .policy .now)) (a .state .now) (a .i) (k .place-of .result) (k .place-of .ensures) (a .x)
     (a .domain)
-    (c .before .if1 .taken)) (c .plain .ensures) (t .pre)
+    (c .before .if1 .taken)) (c .installed .ensures) (t .pre)
 
 returns-2 : tie.Need-returns-2
 returns-2 c =
@@ -21,7 +21,7 @@ returns-2 c =
     let a = t .args in
     did (install-lacks (fixedBy (a .policy .now)) (a .state .now) (a .i) (k .place-of .result) (k .place-of .ensures) (a .x)
     (a .domain)
-    (l .before .if1 .left) (l .lacking .result) (l .lacking .ensures) (c .before .if2 .taken)) (c .detailed .ensures) (t .pre)
+    (l .before .if1 .left) (l .lacking .result) (l .lacking .ensures) (c .before .if2 .taken)) (c .not-offered .ensures) (t .pre)
 
 returns-3 : tie.Need-returns-3
 returns-3 c =
@@ -33,7 +33,7 @@ returns-3 c =
     did (install-full (fixedBy (a .policy .now)) (a .state .now) (a .i) (k .place-of .result) (k .place-of .ensures) (a .x)
     (a .domain)
     (l .before .if1 .left) (l .lacking .result) (l .lacking .ensures) (j .before .before .if2 .left)
-    (j .place-of2 .result) (j .place-of2 .ensures) (c .before .if3 .taken)) (c .plain2 .ensures) (t .pre)
+    (j .place-of2 .result) (j .place-of2 .ensures) (c .before .if3 .taken)) (c .no-room .ensures) (t .pre)
 
 returns-4 : tie.Need-returns-4
 returns-4 c =
@@ -48,7 +48,7 @@ returns-4 c =
     (a .domain)
     (l .before .if1 .left) (l .lacking .result) (l .lacking .ensures) (j .before .before .if2 .left)
     (j .place-of2 .result) (j .place-of2 .ensures) (d .before .if3 .left))
-    (c .plain3 .ensures) (rw (← d .none .ensures) (w .write-slot .ensures))
+    (c .done .ensures) (rw (← d .none .ensures) (w .write-slot .ensures))
 
 pub install-spec : {M : Type 1} → statement M
 install-spec =

@@ -5,10 +5,11 @@ use Prim.Native.Nat.{ℕ, _-_, _≤_}
 use borrow.Author.Needs.{needs}
 use Rattle.words.specs.Search.{firstFrom}
 use Rattle.words.proofs.Search.{firstFrom-go, firstFrom-stop, firstFrom-done}
-use Rattle.model.specs.declared.Domain.{Domain}
-use Rattle.model.specs.declared.Permission.{Permission}
-use Rattle.model.specs.Device.{has, lowest}
-use Rattle.model.specs.Policy.{fixedBy, offered}
+use Rattle.device.specs.declared.Domain.{Domain}
+use Rattle.device.specs.declared.Permission.{Permission}
+use Rattle.device.specs.Device.{has, lowest}
+use Rattle.model.specs.Policy.{fixedBy}
+use Rattle.device.specs.Cells.{offered}
 use Rattle.model.specs.Step.{lacking}
 use Rattle.steps.proofs.lacking.Statement.{statement}
 use Rattle.steps.proofs.lacking.Tie as tie

@@ -8,7 +8,7 @@ returns c f =
     let k = c .before .before in
     let t = k .before .before .before in
     did (remove-absent f (t .args .state .now) (t .args .i) (k .place-of .result) (k .place-of .ensures) (c .before .if1 .taken))
-    (c .plain .ensures) (t .pre)
+    (c .not-installed .ensures) (t .pre)
 
 returns-2 : tie.Need-returns-2
 returns-2 c f =
@@ -18,7 +18,7 @@ returns-2 c f =
     let t = k .before .before .before in
     did (remove-active f (t .args .state .now) (t .args .i) (k .place-of .result) (k .place-of .ensures) (n .if1 .left)
     (r .read-session .result) (r .read-session .ensures) (c .before .if2 .taken))
-    (c .plain2 .ensures) (t .pre)
+    (c .active .ensures) (t .pre)
 
 returns-3 : tie.Need-returns-3
 returns-3 c f =
@@ -30,7 +30,7 @@ returns-3 c f =
     let t = k .before .before .before in
     did (remove-done f (t .args .state .now) (t .args .i) (k .place-of .result) (k .place-of .ensures) (n .if1 .left)
     (r .read-session .result) (r .read-session .ensures) (v .if2 .left))
-    (c .plain3 .ensures) (rw (← w .before .free .ensures) (w .write-slot .ensures))
+    (c .done .ensures) (rw (← w .before .free .ensures) (w .write-slot .ensures))
 
 pub remove-spec : {M : Type 1} → statement M
 remove-spec =

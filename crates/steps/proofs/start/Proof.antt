@@ -1,8 +1,7 @@
-use mathlib.Core.Path.{refl}
+use mathlib.Core.Path.{_∙_}
 use borrow.Author.Needs.{needs}
-use Rattle.model.specs.State.{withSession, undecided, readState}
-use Rattle.steps.proofs.Events.{did, start-busy, start-absent, start-done}
-use Rattle.steps.proofs.Requests.{knows, unknown-yet}
+use Rattle.steps.proofs.Events.{did, start-busy, start-absent, start-done, start-beside, start-nowhere, start-there}
+use Rattle.steps.proofs.Requests.{unknown-yet}
 use Rattle.steps.proofs.start.Statement.{statement}
 use Rattle.steps.proofs.start.Tie as tie
 
@@ -10,9 +9,11 @@ returns : tie.Need-returns
 returns c f =
     let r = c .before .before .before .before .before in
     let t = r .before .before .before in
-    unknown-yet (c .unknown .ensures)
-    (did (start-busy f (t .args .state .now) (r .read-session .result) (r .read-session .ensures) (t .args .i)
-    (c .before .before .if1 .taken)) (c .before .plain .ensures) (t .pre))
+    let busy = c .before .before .if1 .taken in
+    let (done, nowhere) = unknown-yet (c .unknown .ensures)
+    (did (start-busy f (t .args .state .now) (r .read-session .result) (r .read-session .ensures) (t .args .i) busy)
+    (c .before .busy .ensures) (t .pre)) in
+    (done, nowhere ∙ start-beside f (t .args .state .now) (r .read-session .result) (r .read-session .ensures) (t .args .i) busy)
 
 returns-2 : tie.Need-returns-2
 returns-2 c f =
@@ -20,10 +21,15 @@ returns-2 c f =
     let n = k .before .before in
     let r = n .before .before .before in
     let t = r .before .before .before in
-    unknown-yet (c .unknown2 .ensures)
+    let absent = c .before .before .if2 .taken in
+    let (done, nowhere) = unknown-yet (c .unknown2 .ensures)
     (did (start-absent f (t .args .state .now) (t .args .i) (k .place-of .result) (k .place-of .ensures)
-    (r .read-session .result) (r .read-session .ensures) (n .if1 .left) (c .before .before .if2 .taken))
-    (c .before .plain2 .ensures) (t .pre))
+    (r .read-session .result) (r .read-session .ensures) (n .if1 .left) absent)
+    (c .before .not-installed .ensures) (t .pre)) in (
+      done,
+      nowhere ∙ start-nowhere f (t .args .state .now) (t .args .i) (k .place-of .result) (k .place-of .ensures)
+          (r .read-session .result) (r .read-session .ensures) (n .if1 .left) absent,
+    )
 
 returns-3 : tie.Need-returns-3
 returns-3 c f =
@@ -32,12 +38,12 @@ returns-3 c f =
     let k = d .before .before in
     let n = k .before .before in
     let r = n .before .before .before in
-    let t = r .before .before .before in
-    let after = withSession (record { suite = t .args .i; decisions = undecided }) (readState (t .args .state .now)) in (
+    let t = r .before .before .before in (
       did (start-done f (t .args .state .now) (t .args .i) (k .place-of .result) (k .place-of .ensures)
           (r .read-session .result) (r .read-session .ensures) (n .if1 .left) (d .before .if2 .left))
-          (c .plain3 .ensures) (rw (← d .none .ensures) (w .write-session .ensures)),
-      knows after (k .place-of .ensures) refl (w .write-session .ensures),
+          (c .done .ensures) (rw (← d .none .ensures) (w .write-session .ensures)),
+      start-there f (t .args .state .now) (t .args .i) (k .place-of .result) (k .place-of .ensures)
+          (r .read-session .result) (r .read-session .ensures) (n .if1 .left) (d .before .if2 .left),
     )
 
 pub start-spec : {M : Type 1} → statement M

@@ -11,7 +11,7 @@ returns : tie.Need-returns
 unfolding step
 returns c =
     let t = c .before .before .before .before .before .before in
-    rw (c .before .before .enum-told .given .1) (unknown-yet (c .unknown .ensures) (did refl (c .before .plain .ensures)
+    rw (c .before .before .enum-told .given .1) (unknown-yet (c .unknown .ensures) (did refl (c .before .bad-event .ensures)
     (t .pre .0)))
 
 returns-2 : tie.Need-returns-2

@@ -8,7 +8,7 @@ returns c f =
     let r = c .before .before .before .before in
     let t = r .before .before .before in
     did (terminate-idle f (t .args .state .now) (r .read-session .result) (r .read-session .ensures) (c .before .if1 .taken))
-    (c .plain .ensures) (t .pre)
+    (c .no-session .ensures) (t .pre)
 
 returns-2 : tie.Need-returns-2
 returns-2 c f =
@@ -17,7 +17,7 @@ returns-2 c f =
     let r = n .before .before .before in
     let t = r .before .before .before in
     did (terminate-done f (t .args .state .now) (r .read-session .result) (r .read-session .ensures) (n .if1 .left))
-    (c .plain2 .ensures) (rw (← w .before .idle .ensures) (w .write-session .ensures))
+    (c .done .ensures) (rw (← w .before .idle .ensures) (w .write-session .ensures))
 
 pub terminate-spec : {M : Type 1} → statement M
 terminate-spec =

@@ -2,8 +2,9 @@ use mathlib.Core.Path.{sym, _∙_}
 use native.Mathlib.Omega.{arith}
 use lib.ListN.{List·getD-eq-default}
 use borrow.Author.Needs.{needs}
-use Rattle.model.specs.State.{free, slotsFrom, readState}
-use Rattle.model.proofs.Right.{length-slots}
+use Rattle.device.specs.Empty.{free}
+use Rattle.model.specs.State.{slotsFrom, readState}
+use Rattle.model.proofs.Bytes.{length-slots}
 use Rattle.store.proofs.Records.{slots-get}
 use Rattle.store.proofs.read_slot.Statement.{statement}
 use Rattle.store.proofs.read_slot.Tie as tie

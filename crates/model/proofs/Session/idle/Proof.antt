@@ -1,9 +1,0 @@
-use borrow.Author.Needs.{needs}
-use Rattle.model.proofs.Session.idle.Statement.{statement}
-use Rattle.model.proofs.Session.idle.Tie as tie
-
-returns : tie.Need-returns
-returns c = rw (c .none .ensures)
-
-pub idle-spec : {M : Type 1} → statement M
-idle-spec = tie.close (tie.spec (λ c κs. search needs) returns)
