@@ -25,14 +25,6 @@ suites n s = map (λ x. x .suite .0) (take n (s .slots))
 
 -- ---- decisions
 
--- what a cell admits, cells 0 to 5: in oneshot 1 to 3, in session 2 and 3, in blanket 3
-pub cells : map (λ m. map (λ c. admits c m) (0 ∷ 1 ∷ 2 ∷ 3 ∷ 4 ∷ 5 ∷ [])) (oneshot ∷ session ∷ blanket ∷ [])
-    ≡ ((false ∷ true ∷ true ∷ true ∷ false ∷ false ∷ [])
-    ∷ (false ∷ false ∷ true ∷ true ∷ false ∷ false ∷ [])
-    ∷ (false ∷ false ∷ false ∷ true ∷ false ∷ false ∷ []) ∷ [])
-unfolding computed
-cells = refl
-
 -- a denial above the cell's mode is DENIED and entered, and stands in the next session
 abbrev pub denied : List Event
 denied = install 10 0 0b1000 2 ∷ start 10 ∷ ask 3 (Deny blanket) ∷ ask 3 None ∷ Terminate ∷ start 10 ∷ ask 3 None ∷ []
@@ -99,7 +91,7 @@ abbrev pub installs : ℕ → ℕ → List Event
 installs zero i = []
 installs (suc n) i = install i 0 0 0 ∷ installs n (suc i)
 
--- "the 32nd install succeeds, the 33rd is 24, and after one remove it succeeds in that slot"
+-- 32 installs fill the slots, the next is 24, and takes the slot of a suite that is removed
 pub full : drop 31 (answers (installs 32 1 ++ (install 33 0 0 0 ∷ remove 7 ∷ install 33 0 0 0 ∷ install 34 0 0 0 ∷ [])))
     ≡ (plain 0 ∷ plain 24 ∷ plain 0 ∷ plain 0 ∷ plain 24 ∷ [])
 unfolding computed
@@ -121,7 +113,7 @@ highest-numbers = refl
 abbrev pub short : (kind domain low high permission answer : ℕ) → List ℕ
 short k d i j p u = k ∷ d ∷ i ∷ j ∷ p ∷ u ∷ zeros 18
 
--- "suite 65535 installs, 0 is 18; permission 63 is read, 64 is 18; answer 6 is read, 7 is 18"; domain 7 and 8; kinds 0 and 6
+-- the last of each number and the one behind it: suite 65535 and 0, domain 7 and 8, permission 63 and 64, answer 6 and 7, kind 0 and 6
 pub edges : map readEvent (short 1 7 255 255 0 0 ∷ short 1 8 1 0 0 0 ∷ short 1 0 0 0 0 0 ∷ short 2 0 0 0 0 0 ∷ short 3 0 0 0 0 0
     ∷ short 5 0 0 0 63 6 ∷ short 5 0 0 0 64 0 ∷ short 5 0 0 0 0 7 ∷ short 5 0 0 0 0 0 ∷ short 0 0 0 0 0 0 ∷ short 6 0 0 0 0 0 ∷ [])
     ≡ (install 65535 0 0 7 ∷ Unreadable ∷ Unreadable ∷ Unreadable ∷ Unreadable

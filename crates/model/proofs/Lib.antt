@@ -3,6 +3,8 @@ pub mod Worked
 pub mod Listing
 pub mod Cases
 pub mod Edges
+pub mod Orders
+pub mod Clauses
 pub mod Slots
 pub mod ValidSlots
 pub mod Entering

@@ -59,3 +59,17 @@ pub responses-append : (f : Fixed) (s : State) (a b : List Event)
 unfolding after responses
 responses-append f s [] b = refl
 responses-append f s (e ∷ a) b = ap (λ rs. step f s e .response ∷ rs) (responses-append f (step f s e .state) a b)
+
+-- ---- a refused event left out: the same state at the end, the same answers to the others
+
+pub left-out : (f : Fixed) (s : State) (a : List Event) (e : Event) (b : List Event)
+    → refused (step f (after f s a) e .response) ≡ true
+    → (after f s (a ++ (e ∷ b)) ≡ after f s (a ++ b))
+    × (responses f s (a ++ (e ∷ b)) ≡ responses f s a ++ (step f (after f s a) e .response ∷ responses f (after f s a) b))
+unfolding after responses
+left-out f s [] e b h =
+    let same = refused-leaves f s e h in
+    (ap (λ t. after f t b) same, ap (λ t. step f s e .response ∷ responses f t b) same)
+left-out f s (x ∷ a) e b h =
+    let (states, answers) = left-out f (step f s x .state) a e b h in
+    (states, ap (λ rs. step f s x .response ∷ rs) answers)

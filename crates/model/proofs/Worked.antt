@@ -26,7 +26,7 @@ use Rattle.model.specs.Calls.{newCall, writeCall, checkCall, stepCall, r
 abbrev pub zeros : ℕ → List ℕ
 zeros n = replicate n 0
 
--- "domain 2 has cells 4, 2, 3, 1 for permissions 0 to 3; every other cell is 0"
+-- permissions 0 to 3 have the cells 4, 2, 3, 1 in domain 2; nothing else is offered
 abbrev pub policy : List ℕ
 policy = zeros 128 ++ (4 ∷ 2 ∷ 3 ∷ 1 ∷ zeros 380)
 

@@ -45,7 +45,7 @@ unfolding responses
 length-responses f s [] = refl
 length-responses f s (e ∷ es) = ap suc (length-responses f (step f s e .state) es)
 
-length-output : (rs : List Response) → length (outputOf rs) ≡ 2 * length rs
+pub length-output : (rs : List Response) → length (outputOf rs) ≡ 2 * length rs
 unfolding outputOf
 length-output [] = refl
 length-output (r ∷ rs) = let e = length-output rs in omega arith
