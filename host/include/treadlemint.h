@@ -5,8 +5,8 @@
  * global state: calls on different buffers may run at the same time.
  *
  * The calls take every input: whatever the bytes and the lengths, there is an answer, which is
- * number | detail << 8. A number of 16 or more is a refusal: every lent byte is then as it was, and
- * the count of a refused run is 0.
+ * number | detail << 8. A number of 16 or more is a refusal: every lent byte is then as it was, but
+ * that a refused run sets the count to 0.
  *
  * Pointers are valid for their lengths and not null, also for length 0, and a buffer that a call
  * writes overlaps no other; count points to one uint64_t.
@@ -101,7 +101,7 @@ static inline size_t tm_record_length(uint64_t part) { return (size_t)(part >> 3
 /* 1,320 lent bytes become zero, DONE; another size is 17. */
 uint32_t tm_new_state(uint8_t *state, size_t state_len);
 
-/* 16 if the first is no policy (512 bytes, no cell above 4), 17 if the second is no right state
+/* 16 if the first is no policy (512 bytes, no cell above 4), 17 if the second is no valid state
    under it, else DONE. */
 uint32_t tm_check(const uint8_t *policy, size_t policy_len, const uint8_t *state, size_t state_len);
 
@@ -121,7 +121,7 @@ uint32_t tm_step(const uint8_t *policy, size_t policy_len, uint8_t *state, size_
                  const uint8_t *event, size_t event_len);
 
 /* 16 and 17 as tm_check, 30 if the events are no whole records or the output is not two bytes for
-   each, all with count 0; else DONE with their number, each answer in its two bytes and the bytes
+   each: each refusal sets *count to 0 and leaves state and output; else DONE with their number, each answer in its two bytes and the bytes
    of the last state, as if tm_step had been called on each. */
 uint32_t tm_run(const uint8_t *policy, size_t policy_len, uint8_t *state, size_t state_len,
                 const uint8_t *events, size_t events_len, uint8_t *out, size_t out_len,

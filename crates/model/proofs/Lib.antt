@@ -13,5 +13,6 @@ pub mod RoundTrip
 pub mod Kept
 pub mod Runs
 pub mod Calls
+pub mod Numbers
 pub mod Isolation
 pub mod Faulty
