@@ -18,7 +18,7 @@ module _ (policy b : List ℕ) (i : Suite) where
   abbrev at : ℕ
   at = place i (readState b .slots)
 
-  -- the state is right: the suite is installed, unless it is no suite or its place is behind the slots
+  -- the state is valid: the suite is installed, unless it is no suite or its place is behind the slots
   pub find-by-place : refused (checkCall policy b) ≡ false → i .0 < 65536
       → findCall policy b i ≡ cond (eqb (i .0) 0 || leb 32 at) NOT-INSTALLED DONE
   unfolding findCall

@@ -115,9 +115,9 @@ by-product w =
     rw (e, f) (of-bits (w % 2) (w / 256 % 2) (w / 256 / 256 % 2) (w / 256 / 256 / 256 % 2)
     (omega arith) (omega arith) (omega arith) (omega arith))
 
-pub right-size : (b : List ℕ) → policyValid b ≡ true → length b ≡ 512
+pub policy-size : (b : List ℕ) → policyValid b ≡ true → length b ≡ 512
 unfolding policyValid
-right-size b right = eqb-true _ 512 (both (eqb (length b) 512) _ right .0)
+policy-size b v = eqb-true _ 512 (both (eqb (length b) 512) _ v .0)
 
 -- ---- the four classes, by those bits
 
@@ -135,11 +135,11 @@ classes (suc (suc (suc zero))) l = (refl, refl, refl, refl)
 classes (suc (suc (suc (suc zero)))) l = (refl, refl, refl, refl)
 classes (suc (suc (suc (suc (suc c))))) l = absurd (omega arith)
 
-module _ (b : List ℕ) (right : policyValid b ≡ true) (d : ℕ) (l : d < 8) where
+module _ (b : List ℕ) (v : policyValid b ≡ true) (d : ℕ) (l : d < 8) where
   cell-small : (n : ℕ) → n < 64 → getD b (64 * d + n) 0 ≤ 4
   unfolding policyValid
   cell-small n m =
-      let cells = both (eqb (length b) 512) (allFrom (λ i. leb (getD b i 0) 4) 512 0) right .1 in
+      let cells = both (eqb (length b) 512) (allFrom (λ i. leb (getD b i 0) 4) 512 0) v .1 in
       leb-true _ 4 (allFrom-at (λ i. leb (getD b i 0) 4) 512 0 cells (64 * d + n) (omega arith) (omega arith))
 
   abbrev plane : ℕ → ℕ

@@ -1,4 +1,4 @@
--- An answer of the user is entered only where it was asked for: what a decision makes known, and that the sets stay right.
+-- An answer of the user is entered only where it was asked for: what a decision makes known, and that the sets stay valid.
 -- Assumes nothing.
 use Prim.Native.Nat.{ℕ, _^_}
 use mathlib.Core.Path.{_≡_, refl}
@@ -105,7 +105,7 @@ module _ (p : Permission) (m : Mode) (k : Bool) (c : ℕ) (is : isPermission p �
     sized = λ d h r. (h, stays-set (d .revoked) r);
   }
 
--- ---- the decisions stay right
+-- ---- the decisions stay valid
 
 module _ (f : Fixed) (r : Session) (x : Slot) (p : Permission) (g : Decisions → Decisions)
     (clear : Undecided p (r .decisions) (x .decisions)) where

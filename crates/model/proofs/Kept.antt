@@ -62,7 +62,7 @@ clear-decided f r x h =
     λ i. record { granted = eqb-true (r .decisions .granted) 0 g i; revoked = eqb-true (r .decisions .revoked) 0 v i } in
     ap (λ d. sessionDecided f (record { suite = r .suite; decisions = d }) x) none ∙ session-undecided f (r .suite) x
 
--- ---- an installed suite is right in itself
+-- ---- an installed suite is sound
 
 sound-deciding : (f : Fixed) (g : Decisions → Decisions) (x : Slot) → sameSuite (x .suite) noSuite ≡ false
     → slotSound f x ≡ true → slotSound f (slotDeciding g x) ≡ true
@@ -104,8 +104,8 @@ module _ (f : Fixed) (s : State) (v : valid f s ≡ true) where
   pub holds : Holds
   unfolding valid sessionValid
   holds =
-      let (count, slots, both-right) = all-three _ _ _ v in
-      let (sound, decided) = both (sessionSound s) (sessionDecided f (s .session) (runningSlot s)) both-right in
+      let (count, slots, rest) = all-three _ _ _ v in
+      let (sound, decided) = both (sessionSound s) (sessionDecided f (s .session) (runningSlot s)) rest in
       record { count = count; slots = slots; sound = sound; decided = decided }
 
   pub is-installed : inSession s ≡ true → carries (s .session .suite) (s .slots) ≡ true
@@ -116,7 +116,7 @@ module _ (f : Fixed) (s : State) (v : valid f s ≡ true) where
   unfolding valid
   another-session r h = rw (holds .count, holds .slots, h)
 
-  -- other slots, in which the inSession suite has a slot as right as its own
+  -- other slots, in which the running suite has a slot as good as its own
   other-slots : (l : List Slot) → length l ≡ length (s .slots) → slotsValid f [] l ≡ true
       → (inSession s ≡ true
       → (carries (s .session .suite) l ≡ true) × (sessionDecided f (s .session) (find (s .session .suite) l) ≡ true))

@@ -57,7 +57,7 @@ module _ (f : Fixed) where
   unfolding slotsValid slotValid
   put-together lower x xs k = rw (k .sound, k .own, k .decided, k .more)
 
-  -- each slot is right in itself, and so is a free one
+  -- each slot is sound, and so is a free one
   pub find-sound : (i : Suite) (lower : List Suite) (l : List Slot) → slotsValid f lower l ≡ true → slotSound f (find i l) ≡ true
   unfolding find slotSound
   find-sound i lower [] h = refl

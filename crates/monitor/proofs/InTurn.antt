@@ -27,14 +27,14 @@ use Rattle.monitor.specs.InTurn.{stepsCall}
 use Rattle.monitor.proofs.Laws.{fit-parts}
 use Rattle.monitor.proofs.Runs.{length-events, length-responses, length-output, output-append}
 
-module _ (policy : List ℕ) (right : policyValid policy ≡ true) where
+module _ (policy : List ℕ) (good : policyValid policy ≡ true) where
   abbrev f : Fixed
   f = fixedBy policy
 
   -- the bytes of a valid state pass the check
   pub valid-passes : (s : State) → valid f s ≡ true → checkCall policy (writeState s) ≡ DONE
   unfolding checkCall
-  valid-passes s v = rw (right, valid-written f s v)
+  valid-passes s v = rw (good, valid-written f s v)
 
   pub step-written : (s : State) → valid f s ≡ true → (e : List ℕ)
       → stepCall policy (writeState s) e ≡ leaving (writeState (step f s (readEvent e) .state)) (step f s (readEvent e) .response)

@@ -36,7 +36,7 @@ use Rattle.paper.proofs.Simulation.{refined}
 blanket-mode : (c : ℕ) → admits c blanket ≡ true → highest c ≡ UpTo blanket
 blanket-mode c k = let (m, e, le) = admitted c blanket k in e ∙ ap UpTo (widest m le)
 
--- a slot that is right in itself
+-- a slot that is sound
 sound-offers : (f : Fixed) (x : Slot) → sameSuite (x .suite) noSuite ≡ false → slotSound f x ≡ true
     → _≀_ (policyOf f) (descriptorOf (x .descriptor)) (x .domain)
 unfolding slotSound installable
@@ -119,7 +119,7 @@ module _ (f : Fixed) (s : State) (v : valid f s ≡ true) where
   -- ---- the conditions
 
   runs : (ses : SessionInfo) → sessionOf (s .session) ≡ some ses → Running f s (stateOf s)
-  runs ses e = record { right = v; refines = refined s; run = the-session (s .session) ses e .0 }
+  runs ses e = record { valid-state = v; refines = refined s; run = the-session (s .session) ses e .0 }
 
   for-mine : (Q : SessionInfo → Published.Suite → Type 0) → Q (infoOf (s .session)) (suiteOf (runningSlot s))
       → (ses : SessionInfo) (ms : Published.Suite) → sessionOf (s .session) ≡ some ses → Installed (s .slots) ms

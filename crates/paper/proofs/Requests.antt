@@ -67,7 +67,7 @@ no-response r e =
     let n = leb-true 16 (r .number) e in
     rw (ne-eqb (r .number) 1 (λ k. omega arith), ne-eqb (r .number) 2 (λ k. omega arith))
 
--- ---- a request of the inSession suite
+-- ---- a request of the running suite
 
 module _ {f : Fixed} {s : State} {S : Published.State} (k : Running f s S) (p : Permission) (is : isPermission p ≡ true) where
   abbrev h : S ⊑ s
@@ -314,4 +314,4 @@ module _ (f : Fixed) (s : State) (v : valid f s ≡ true) (S : Published.State) 
   request-follows is u =
       cases (Simulated f S s (Request p u)) (not (inSession s))
       (λ n. (S, published (Published.request p (answerOf u)) refl (npre (idle (not-false _ (not-true _ n)) u)), h))
-      (λ n. running-follows (record { right = v; refines = h; run = not-true _ (not-false _ n) }) p is u)
+      (λ n. running-follows (record { valid-state = v; refines = h; run = not-true _ (not-false _ n) }) p is u)

@@ -26,7 +26,7 @@ use Rattle.paper.proofs.Decided.{out, into, Fit, kept-fit, now-fit, now
 use Rattle.paper.proofs.Refined.{one-runs, the-suite, as-slot}
 
 pub record Running (f : Fixed) (s : State) (S : Published.State) : Type 2 where
-  pub right : valid f s ≡ true
+  pub valid-state : valid f s ≡ true
   pub refines : S ⊑ s
   pub run : sameSuite (s .session .suite) noSuite ≡ false
 
@@ -42,7 +42,7 @@ module _ {f : Fixed} {s : State} {S : Published.State} (k : Running f s S) where
   me = runningSlot s
 
   pub there : carries i (s .slots) ≡ true
-  there = is-installed f s (k .right) (rw (k .run))
+  there = is-installed f s (k .valid-state) (rw (k .run))
 
   pub session-is : S .session ≡ some (infoOf (s .session))
   session-is = one-runs (k .refines) (k .run)
@@ -103,10 +103,10 @@ module _ {f : Fixed} {s : State} {S : Published.State} (k : Running f s S) where
     w = standing p (s .session .decisions) (me .decisions)
 
     pub now : Fit session (declared me p) (f .cell (me .domain) p) a b
-    now = now-fit f s (k .right) p is
+    now = now-fit f s (k .valid-state) p is
 
     pub kept : Fit blanket (declared me p) (f .cell (me .domain) p) g r
-    kept = kept-fit f s (k .right) p is i
+    kept = kept-fit f s (k .valid-state) p is i
 
     -- a grant, or a revocation, beside which no grant stands
     pub stands-granted : (a || g) ≡ true → w ≡ Granted
@@ -119,11 +119,11 @@ module _ {f : Fixed} {s : State} {S : Published.State} (k : Running f s S) where
 
     pub revoked-now : b ≡ true → w ≡ Revoked
     revoked-now e =
-        stands-revoked (λ t. now .apart t e) (λ t. now-beside f s (k .right) p is (rw (e, or-true)) (rw t)) (rw e)
+        stands-revoked (λ t. now .apart t e) (λ t. now-beside f s (k .valid-state) p is (rw (e, or-true)) (rw t)) (rw e)
 
     pub revoked-kept : r ≡ true → w ≡ Revoked
     revoked-kept e =
-        stands-revoked (λ t. now-beside f s (k .right) p is (rw t) (rw (e, or-true))) (λ t. kept .apart t e) (rw (e, or-true))
+        stands-revoked (λ t. now-beside f s (k .valid-state) p is (rw t) (rw (e, or-true))) (λ t. kept .apart t e) (rw (e, or-true))
 
     -- something stands
     pub some-stands : stands w ≡ true

@@ -21,7 +21,7 @@ use Rattle.model.proofs.Kept.{slot-undecided}
 use Rattle.paper.specs.Published
 use Rattle.paper.specs.Refinement.{In, suiteOf, Installed, Agrees}
 
--- the decisions found are right
+-- the decisions found are valid
 pub find-decided : (f : Fixed) (i : Suite) (lower : List Suite) (l : List Slot) → slotsValid f lower l ≡ true
     → slotDecided f (find i l) ≡ true
 unfolding find

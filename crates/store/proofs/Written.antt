@@ -1,4 +1,4 @@
--- The bytes of a valid state are right, and hold it. Assumes nothing.
+-- The bytes of a valid state are valid, and hold it. Assumes nothing.
 use mathlib.Core.Path.{_≡_, refl, sym, ap, ap₂, _∙_}
 use mathlib.Core.Bool.{Bool, true, false, cond}
 use mathlib.Core.List.{List, [], _∷_, _++_, append-assoc}

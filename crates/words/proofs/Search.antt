@@ -28,15 +28,15 @@ module _ (f : ℕ → Bool) (e i : ℕ) where
   unfolding firstFrom
   firstFrom-done w l = sym (w ∙ rw (over l))
 
-  -- a loop that tests them all and keeps in `right` whether each has passed
-  pub allFrom-go : {whole : Bool} (right : Bool) → whole ≡ (right && allFrom f (e - i) i) → i < e
-      → whole ≡ ((right && f i) && allFrom f (e - (i + 1)) (i + 1))
+  -- a loop that tests them all and keeps in `passed` whether each has passed
+  pub allFrom-go : {whole : Bool} (passed : Bool) → whole ≡ (passed && allFrom f (e - i) i) → i < e
+      → whole ≡ ((passed && f i) && allFrom f (e - (i + 1)) (i + 1))
   unfolding allFrom
-  allFrom-go right w l = w ∙ rw (turn l, add-one, and-assoc right (f i) (allFrom f (e - suc i) (suc i)))
+  allFrom-go passed w l = w ∙ rw (turn l, add-one, and-assoc passed (f i) (allFrom f (e - suc i) (suc i)))
 
-  pub allFrom-done : {whole : Bool} (right : Bool) → whole ≡ (right && allFrom f (e - i) i) → e ≤ i → right ≡ whole
+  pub allFrom-done : {whole : Bool} (passed : Bool) → whole ≡ (passed && allFrom f (e - i) i) → e ≤ i → passed ≡ whole
   unfolding allFrom
-  allFrom-done right w l = sym (w ∙ rw (over l, and-true right))
+  allFrom-done passed w l = sym (w ∙ rw (over l, and-true passed))
 
 -- every number before it fails
 pub firstFrom-none : (f : ℕ → Bool) (n i k : ℕ) → i ≤ k → k < firstFrom f n i → f k ≡ false

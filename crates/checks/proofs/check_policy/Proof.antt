@@ -12,11 +12,11 @@ use Rattle.checks.proofs.check_policy.Statement.{statement}
 use Rattle.checks.proofs.check_policy.Tie as tie
 
 abbrev Inv-loop : tie.InvT-loop
-Inv-loop policy right₀ i₀ valid i =
+Inv-loop policy valid₀ i₀ valid i =
     (i ≤ 512) × (policyValid policy ≡ (valid && allFrom (λ k. leb (getD policy k 0) 4) (512 - i) i))
 
 abbrev μ-loop : tie.MeasureT-loop
-μ-loop policy right₀ i₀ valid i = 512 - i
+μ-loop policy valid₀ i₀ valid i = 512 - i
 
 returns : tie.Need-returns Inv-loop μ-loop
 unfolding policyValid

@@ -5,7 +5,7 @@ use native.Mathlib.Omega.{arith}
 use borrow.Author.Needs.{needs}
 use Rattle.checks.specs.Rows.{setFrom, lowBits}
 use Rattle.checks.proofs.Rows.{planeFrom, four-more, plane-small, splits-1, splits-2, splits-4, low-bits-lt}
-use Rattle.checks.proofs.Rows.{right-size, row-made}
+use Rattle.checks.proofs.Rows.{policy-size, row-made}
 use Rattle.checks.proofs.row_of.Statement.{statement}
 use Rattle.checks.proofs.row_of.Tie as tie
 
@@ -28,7 +28,7 @@ inside : tie.Need-read32-requires Inv-loop μ-loop
 inside c κs =
     let s = c .before .before .before in
     let (most, whole, _, _, _) = c .before .loop .inv in
-    omega (arith, right-size (s .args .policy .now) (s .pre .0))
+    omega (arith, policy-size (s .args .policy .now) (s .pre .0))
 
 loop-again : tie.Need-loop-again Inv-loop μ-loop
 loop-again c =
