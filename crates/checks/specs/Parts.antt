@@ -6,8 +6,8 @@ use lib.ListN.{take, drop}
 use denote.Ref.{RefT}
 use Rattle.model.specs.Calls.{Part}
 
--- r is the part p of what is lent as b: it begins that many bytes behind b's beginning, and has the bytes that stand there
-pub record IsPart (b : RefT (List ℕ)) (p : Part) (r : RefT (List ℕ)) : Type 0 where
-  pub block : r .ptr .0 ≡ b .ptr .0
-  pub start : r .ptr .1 ≡ b .ptr .1 + p .from
-  pub bytes : r .now ≡ take (p .size) (drop (p .from) (b .now))
+-- the reference `got` is that part of what is lent: it begins that many bytes behind its beginning, and has the bytes that stand there
+pub record IsPart (lent : RefT (List ℕ)) (part : Part) (got : RefT (List ℕ)) : Type 0 where
+  pub block : got .ptr .0 ≡ lent .ptr .0
+  pub start : got .ptr .1 ≡ lent .ptr .1 + part .from
+  pub bytes : got .now ≡ take (part .size) (drop (part .from) (lent .now))

@@ -7,45 +7,45 @@ use Rattle.device.specs.declared.Permission.{Permission}
 use Rattle.device.specs.declared.Domain.{Domain}
 use Rattle.device.specs.declared.Mode.{Mode}
 use Rattle.device.specs.declared.Mode.the-variants.{Oneshot, Session, Blanket}
-use Rattle.device.specs.Device.{isDomain}
+use Rattle.device.specs.Device.{permissionCount, domainCount, isDomain}
 use Rattle.model.specs.Policy.{Fixed}
 use Rattle.device.specs.Cells.{offered, admits}
 use Rattle.checks.specs.declared.Row.{Row}
 
--- of the n numbers from i those that pass f, as a set: i itself is the bit worth 1
+-- of the n numbers from i those that pass the test, as a set: i itself is the bit worth 1
 unfoldable pub setFrom : (ℕ → Bool) → ℕ → ℕ → ℕ
-setFrom f zero i = 0
-setFrom f (suc n) i = cond (f i) 1 0 + 2 * setFrom f n (suc i)
+setFrom test zero i = 0
+setFrom test (suc n) i = cond (test i) 1 0 + 2 * setFrom test n (suc i)
 
--- the lowest bits of the n lowest bytes of w, the lowest byte's lowest
+-- the lowest bits of the n lowest bytes of a word, the lowest byte's lowest
 unfoldable pub lowBits : ℕ → ℕ → ℕ
-lowBits zero w = 0
-lowBits (suc n) w = w % 2 + 2 * lowBits n (w / 256)
+lowBits zero word = 0
+lowBits (suc n) word = word % 2 + 2 * lowBits n (word / 256)
 
--- the permissions that pass t
+-- the permissions that pass the test
 unfoldable pub those : (Permission → Bool) → ℕ
-those t = setFrom (λ n. t (record { 0 = n })) 64 0
+those test = setFrom (λ n. test (record { 0 = n })) permissionCount 0
 
--- the permissions whose cell has the user asked for a consent that may be as wide as m
+-- the permissions whose cell has the user asked for a consent that may be as wide as the mode
 unfoldable pub admitting : Fixed → Domain → Mode → ℕ
-admitting f d m = those (λ p. admits (f .cell d p) m)
+admitting fixed domain mode = those (λ permission. admits (fixed .cell domain permission) mode)
 
 unfoldable pub rowOf : Fixed → Domain → Row
-rowOf f d = record {
-  offered = those (λ p. offered (f .cell d p));
-  asked = admitting f d Oneshot;
-  session = admitting f d Session;
-  blanket = admitting f d Blanket;
+rowOf fixed domain = record {
+  offered = those (λ permission. offered (fixed .cell domain permission));
+  asked = admitting fixed domain Oneshot;
+  session = admitting fixed domain Session;
+  blanket = admitting fixed domain Blanket;
 }
 
 -- n rows, from domain d
 unfoldable pub rowsFrom : Fixed → ℕ → ℕ → List Row
-rowsFrom f zero d = []
-rowsFrom f (suc n) d = rowOf f (record { 0 = d }) ∷ rowsFrom f n (suc d)
+rowsFrom fixed zero d = []
+rowsFrom fixed (suc n) d = rowOf fixed (record { 0 = d }) ∷ rowsFrom fixed n (suc d)
 
 abbrev pub rowsOf : Fixed → List Row
-rowsOf f = rowsFrom f 8 0
+rowsOf fixed = rowsFrom fixed domainCount 0
 
 -- the row of a domain; of a number that is none, any row
 abbrev pub RowIs : Fixed → Domain → Row → Type 0
-RowIs f d row = isDomain d ≡ true → row ≡ rowOf f d
+RowIs fixed domain row = isDomain domain ≡ true → row ≡ rowOf fixed domain

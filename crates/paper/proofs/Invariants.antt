@@ -147,7 +147,7 @@ module _ (pol : Policy) where
   theorem-1 v (npre n) = v
   theorem-1 {e = e} v (pre {r = r} {s' = s'} h q) = valid-after v s' r e h q
 
-  -- ---- Theorem 2, and "one more time" for a session
+  -- ---- Theorem 2, and its like for a session
 
   pub theorem-2 : {s₀ : State} {ss : List Step} → Valid pol s₀ → PSession pol s₀ ss → All (λ step. Valid pol (step .s)) ss
   theorem-2 v (psession-start h x) = (theorem-1 v x, tt)

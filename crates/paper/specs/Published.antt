@@ -156,7 +156,7 @@ Enters p F F' = F' p × ((q : Permission) → q ≢ p → F' q ≡ F q)
 abbrev pub EntersFor : SuiteID → Permission → (F F' : SuiteID → Permission → Type 0) → Type 1
 EntersFor id p F F' = Enters p (F id) (F' id) × ((id₁ : SuiteID) → id₁ ≢ id → F' id₁ ≡ F id₁)
 
--- how each precondition of a request begins: "∃ ses, s.session = Some ses ∧ ∀ ms, s.suite ms → ms.id = ses.id → .."
+-- how each precondition of a request begins: some session ses is open, and of every suite ms with its id the rest holds
 abbrev pub Runs : State → (SessionInfo → Suite → Type 0) → Type 1
 Runs s Q = (ses : SessionInfo) × (s .session ≡ some ses) × ((ms : Suite) → s .suite ms → ms .id ≡ ses .id → Q ses ms)
 

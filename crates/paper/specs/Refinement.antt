@@ -34,30 +34,36 @@ use Rattle.paper.specs.Published.{SessionInfo, ua-allow, ua-deny, start,
 
 -- the permissions of a set
 abbrev pub In : ℕ → Permission → Type 0
-In g p = (isPermission p && has g p) ≡ true
+In set permission = (isPermission permission && has set permission) ≡ true
 
 abbrev pub policyOf : Fixed → Published.Policy
-policyOf f = record { allow = λ d p. unconditional (f .cell d p) ≡ true; user = λ d p m. highest (f .cell d p) ≡ UpTo m }
+policyOf fixed = record {
+  allow = λ d p. unconditional (fixed .cell d p) ≡ true;
+  user = λ d p m. highest (fixed .cell d p) ≡ UpTo m;
+}
 
 abbrev pub descriptorOf : Descriptor → Published.Descriptor
-descriptorOf x = record { required = In (x .required); optional = In (x .optional) }
+descriptorOf descriptor = record { required = In (descriptor .required); optional = In (descriptor .optional) }
 
 abbrev pub suiteOf : Slot → Published.Suite
-suiteOf x = record { id = x .suite; domain = x .domain; descriptor = descriptorOf (x .descriptor) }
+suiteOf slot = record { id = slot .suite; domain = slot .domain; descriptor = descriptorOf (slot .descriptor) }
 
 abbrev pub infoOf : Session → SessionInfo
-infoOf r = record { id = r .suite; granted = In (r .decisions .granted); revoked = In (r .decisions .revoked) }
+infoOf session =
+    record { id = session .suite; granted = In (session .decisions .granted); revoked = In (session .decisions .revoked) }
 
 abbrev pub sessionOf : Session → Option SessionInfo
-sessionOf r = cond (sameSuite (r .suite) noSuite) none (some (infoOf r))
+sessionOf session = cond (sameSuite (session .suite) noSuite) none (some (infoOf session))
 
 -- a suite is what the slot with its number says; in a valid state that is one slot
 abbrev pub Installed : List Slot → Published.Suite → Type 1
-Installed l ms = (sameSuite (ms .id) noSuite ≡ false) × (carries (ms .id) l ≡ true) × (ms ≡ suiteOf (find (ms .id) l))
+Installed slots ms =
+    (sameSuite (ms .id) noSuite ≡ false) × (carries (ms .id) slots ≡ true) × (ms ≡ suiteOf (find (ms .id) slots))
 
 -- F has one set of each installed suite. Of the others nothing is said: the paper's remove leaves their decisions behind
 abbrev pub Agrees : List Slot → (Decisions → ℕ) → (Suite → Permission → Type 0) → Type 1
-Agrees l set F = (i : Suite) → sameSuite i noSuite ≡ false → carries i l ≡ true → F i ≡ In (set (find i l .decisions))
+Agrees slots set F =
+    (suite : Suite) → sameSuite suite noSuite ≡ false → carries suite slots ≡ true → F suite ≡ In (set (find suite slots .decisions))
 
 -- S ⊑ s
 infix 4 _⊑_
@@ -78,23 +84,23 @@ stateOf s = record {
 
 abbrev pub answerOf : UserAnswer → Option Published.UserAnswer
 answerOf None = none
-answerOf (Allow m) = some (ua-allow m)
-answerOf (Deny m) = some (ua-deny m)
+answerOf (Allow mode) = some (ua-allow mode)
+answerOf (Deny mode) = some (ua-deny mode)
 
 -- a record that cannot be read is no event
 abbrev pub eventOf : Event → Option Published.Event
 eventOf Unreadable = none
-eventOf (Install i x d) = some (install i (descriptorOf x) d)
-eventOf (Remove i) = some (remove i)
-eventOf (Start i) = some (start i)
+eventOf (Install suite descriptor domain) = some (install suite (descriptorOf descriptor) domain)
+eventOf (Remove suite) = some (remove suite)
+eventOf (Start suite) = some (start suite)
 eventOf Terminate = some terminate
-eventOf (Request p u) = some (request p (answerOf u))
+eventOf (Request permission answer) = some (request permission (answerOf answer))
 
 -- ALLOWED and DENIED respond; DONE, ASK and the refusals do not
 abbrev pub responseOf : Response → Option Published.Response
-responseOf r =
-    cond (eqb (r .number) (ALLOWED .number)) (some Published.allowed)
-    (cond (eqb (r .number) (DENIED .number)) (some Published.denied)
+responseOf response =
+    cond (eqb (response .number) (ALLOWED .number)) (some Published.allowed)
+    (cond (eqb (response .number) (DENIED .number)) (some Published.denied)
     none)
 
 -- ---- where document 01 departs from the papers: the whole list. Each is a refusal, and nothing changes. A request for a declared
