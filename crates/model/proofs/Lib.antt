@@ -16,3 +16,4 @@ pub mod Calls
 pub mod Numbers
 pub mod Isolation
 pub mod Faulty
+pub mod IsolationClaims

@@ -1,4 +1,5 @@
--- Demand 3, isolation: one suite learns nothing of other suites' user decisions. The owner's words stand beside what says them.
+-- Demand 3, isolation: what the user decides for other suites changes neither what one suite is answered nor what is kept for it.
+-- The suite, which need not be installed, and the policy are any. A prime marks what belongs to the second of two runs.
 use Prim.Native.Nat.{ℕ}
 use mathlib.Core.Path.{_≡_}
 use mathlib.Core.Bool.{Bool, true, false, not, _&&_, _||_, cond}
@@ -13,85 +14,93 @@ use Rattle.device.specs.declared.Event.{Event}
 use Rattle.device.specs.declared.Event.the-variants.{Unreadable, Install, Remove, Start, Terminate, Request}
 use Rattle.device.specs.Device.{sameSuite}
 use Rattle.model.specs.Policy.{Fixed}
-use Rattle.model.specs.State.{State, carries, find, slotBytes}
+use Rattle.model.specs.State.{State, carries, find}
 use Rattle.device.specs.Empty.{undecided}
 use Rattle.model.specs.Valid.{valid}
 use Rattle.model.specs.Events.{readEvent}
-use Rattle.model.specs.Step.{step}
+use Rattle.model.specs.Step.{Outcome, step}
 
--- ---- "Take one suite number and one policy": w, and what is fixed, f
+-- ---- the states: all that the suite may know is all but other suites' decisions
 
--- a slot as w may know it: of another suite all but its decisions
-abbrev pub slotSeen : Suite → Slot → Slot
-slotSeen w x = record {
-  suite = x .suite;
-  domain = x .domain;
-  descriptor = x .descriptor;
-  decisions = cond (sameSuite (x .suite) w) (x .decisions) undecided;
+abbrev pub slotKnown : Suite → Slot → Slot
+slotKnown suite slot = record {
+  suite = slot .suite;
+  domain = slot .domain;
+  descriptor = slot .descriptor;
+  decisions = cond (sameSuite (slot .suite) suite) (slot .decisions) undecided;
 }
 
-abbrev pub sessionSeen : Suite → Session → Session
-sessionSeen w r = record { suite = r .suite; decisions = cond (sameSuite (r .suite) w) (r .decisions) undecided }
+abbrev pub sessionKnown : Suite → Session → Session
+sessionKnown suite session = record {
+  suite = session .suite;
+  decisions = cond (sameSuite (session .suite) suite) (session .decisions) undecided;
+}
 
-unfoldable pub seen : Suite → State → State
-seen w s = record { session = sessionSeen w (s .session); slots = map (slotSeen w) (s .slots) }
+unfoldable pub known : Suite → State → State
+known suite state = record { session = sessionKnown suite (state .session); slots = map (slotKnown suite) (state .slots) }
 
--- "two valid states equal but for other suites' user decisions, those of a session of theirs included"
-pub record Alike (f : Fixed) (w : Suite) (s t : State) : Type 0 where
-  pub one-valid : valid f s ≡ true
-  pub other-valid : valid f t ≡ true
-  pub equal-but : seen w s ≡ seen w t
+-- two valid states that differ in other suites' decisions at most
+pub record Alike (fixed : Fixed) (suite : Suite) (state state' : State) : Type 0 where
+  pub one-valid : valid fixed state ≡ true
+  pub other-valid : valid fixed state' ≡ true
+  pub equal-but : known suite state ≡ known suite state'
 
--- ---- the events
+-- it is not running where another suite is, and where nothing is
+abbrev pub isRunning : Suite → State → Bool
+isRunning suite state = sameSuite (state .session .suite) suite
 
--- it isn't running where another suite is, and where nothing is
-abbrev pub runs : Suite → State → Bool
-runs w s = sameSuite (s .session .suite) w
+-- ---- the event records fed to them
 
--- a record that has a request's kind, damaged or not; an event that is a request
-abbrev pub marked : List ℕ → Bool
-marked e = eqb (getD e 0 0) 5
+-- a record with the kind byte of a request, damaged or not
+abbrev pub isRequestKind : List ℕ → Bool
+isRequestKind event = eqb (getD event 0 0) 5
 
-abbrev pub asks : Event → Bool
-asks Unreadable = false
-asks (Install i x d) = false
-asks (Remove i) = false
-asks (Start i) = false
-asks Terminate = false
-asks (Request p u) = true
+-- an event that is a request
+abbrev pub isRequest : Event → Bool
+isRequest Unreadable = false
+isRequest (Install i x d) = false
+isRequest (Remove i) = false
+isRequest (Start i) = false
+isRequest Terminate = false
+isRequest (Request p u) = true
 
--- "equal at each place, but that a request made while that suite isn't running may be any other request"
-abbrev pub MayReplace : Suite → State → List ℕ → List ℕ → Type 0
-MayReplace w s e e' = (e ≡ e') ⊎ ((runs w s ≡ false) × (marked e ≡ true) × (marked e' ≡ true))
+-- one record may stand where the other does: it is the sameSuite, or both have a request's kind and the suite is not running
+abbrev pub MayReplace : (running : Bool) → (event event' : List ℕ) → Type 0
+MayReplace running event event' =
+    (event ≡ event') ⊎ ((running ≡ false) × (isRequestKind event ≡ true) × (isRequestKind event' ≡ true))
 
--- "two event lists of equal length", from these two states on
-unfoldable pub Replaced : Fixed → Suite → State → State → List (List ℕ) → List (List ℕ) → Type 0
-Replaced f w s t [] [] = true ≡ true
-Replaced f w s t [] (e' ∷ es') = true ≡ false
-Replaced f w s t (e ∷ es) [] = true ≡ false
-Replaced f w s t (e ∷ es) (e' ∷ es') =
-    MayReplace w s e e' × Replaced f w (step f s (readEvent e) .state) (step f t (readEvent e') .state) es es'
+-- so at each place of two lists of one length; whether the suite is running is asked of the first run, and is so in the second
+unfoldable pub Replaced : Fixed → Suite → State → (events events' : List (List ℕ)) → Type 0
+Replaced fixed suite state [] [] = Unit {0}
+Replaced fixed suite state [] (event' ∷ events') = ⊥
+Replaced fixed suite state (event ∷ events) [] = ⊥
+Replaced fixed suite state (event ∷ events) (event' ∷ events') =
+    MayReplace (isRunning suite state) event event'
+    × Replaced fixed suite (step fixed state (readEvent event) .state) events events'
 
--- ---- what follows
+-- ---- what follows at each place
 
--- "the running suite, the wanted suite's stored record and, while it runs, its session are equal"
-pub record Equal (w : Suite) (s t : State) : Type 0 where
-  pub running : s .session .suite ≡ t .session .suite
-  pub installed : carries w (s .slots) ≡ carries w (t .slots)
-  pub stored : slotBytes (find w (s .slots)) ≡ slotBytes (find w (t .slots))
-  pub session : runs w s ≡ true → s .session ≡ t .session
+-- the running suite, what is stored for this one and, while it runs, its session
+pub record Agree (suite : Suite) (state state' : State) : Type 0 where
+  pub running : state .session .suite ≡ state' .session .suite
+  pub installed : carries suite (state .slots) ≡ carries suite (state' .slots)
+  pub stored : find suite (state .slots) ≡ find suite (state' .slots)
+  pub session : isRunning suite state ≡ true → state .session ≡ state' .session
 
--- "all answers, save those to requests made while it isn't running"
-abbrev pub excused : Suite → State → List ℕ → List ℕ → Bool
-excused w s e e' = not (runs w s) && (asks (readEvent e) || asks (readEvent e'))
+-- two answers may differ only while the suite is not running, and where one of the two records reads as a request
+abbrev pub excused : (running : Bool) → (event event' : List ℕ) → Bool
+excused running event event' = not running && (isRequest (readEvent event) || isRequest (readEvent event'))
 
-pub record Place (f : Fixed) (w : Suite) (s t : State) (e e' : List ℕ) : Type 0 where
-  pub answer : excused w s e e' ≡ false → step f s (readEvent e) .response ≡ step f t (readEvent e') .response
-  pub equal : Equal w (step f s (readEvent e) .state) (step f t (readEvent e') .state)
+pub record Place (fixed : Fixed) (suite : Suite) (mayDiffer : Bool) (outcome outcome' : Outcome) : Type 0 where
+  pub answer : mayDiffer ≡ false → outcome .response ≡ outcome' .response
+  pub alike : Alike fixed suite (outcome .state) (outcome' .state)
+  pub agree : Agree suite (outcome .state) (outcome' .state)
 
--- "after each event"
-unfoldable pub Isolated : Fixed → Suite → State → State → List (List ℕ) → List (List ℕ) → Type 0
-Isolated f w s t [] es' = true ≡ true
-Isolated f w s t (e ∷ es) [] = true ≡ true
-Isolated f w s t (e ∷ es) (e' ∷ es') =
-    Place f w s t e e' × Isolated f w (step f s (readEvent e) .state) (step f t (readEvent e') .state) es es'
+unfoldable pub Isolated : Fixed → Suite → (state state' : State) → (events events' : List (List ℕ)) → Type 0
+Isolated fixed suite state state' [] events' = Unit {0}
+Isolated fixed suite state state' (event ∷ events) [] = Unit {0}
+Isolated fixed suite state state' (event ∷ events) (event' ∷ events') =
+    let outcome = step fixed state (readEvent event) in
+    let outcome' = step fixed state' (readEvent event') in
+    Place fixed suite (excused (isRunning suite state) event event') outcome outcome'
+    × Isolated fixed suite (outcome .state) (outcome' .state) events events'

@@ -3,3 +3,4 @@ pub mod Runs
 pub mod InTurn
 pub mod Outcomes
 pub mod Isolation
+pub mod IsolationClaims
