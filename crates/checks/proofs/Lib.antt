@@ -4,3 +4,4 @@ pub mod Slots
 pub mod Sessions
 pub mod Finding
 pub mod Outcomes
+pub mod Claims

@@ -73,6 +73,9 @@ const GATHERED: u64 = 2097152;
 
 const GATHER: u64 = 1 + 128 + 128 * 128 + GATHERED;
 
+// What four bits can hold, and so what a set is worth behind the bits of four more permissions.
+const FOUR_BITS: u64 = 16;
+
 // The lowest bits of four cells, the first one's lowest.
 fn low_bits(cells: u32) -> u64
     ensures { λ r. ⌜ r ≡ lowBits 4 cells ⌝ }
@@ -81,7 +84,7 @@ fn low_bits(cells: u32) -> u64
         + BYTE_1 * (cells / BYTE_1 % 2)
         + BYTE_2 * (cells / BYTE_2 % 2)
         + BYTE_3 * (cells / BYTE_3 % 2);
-    (bits as u64) * GATHER / GATHERED % 16
+    (bits as u64) * GATHER / GATHERED % FOUR_BITS
 }
 
 // From the three bits of its cells: 1, 2 and 3 have the user asked, and 4 is the one that has the bit worth 4. Four cells at a time.
@@ -97,9 +100,9 @@ fn row_of(policy: &[u8], domain: usize) -> Row
     while 0 < p {
         p -= 4;
         let cells = words::read32(policy, start + p);
-        ones = 16 * ones + low_bits(cells);
-        twos = 16 * twos + low_bits(cells / 2);
-        fours = 16 * fours + low_bits(cells / 4);
+        ones = FOUR_BITS * ones + low_bits(cells);
+        twos = FOUR_BITS * twos + low_bits(cells / 2);
+        fours = FOUR_BITS * fours + low_bits(cells / 4);
     }
     Row {
         offered: ones | twos | fours,

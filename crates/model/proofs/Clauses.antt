@@ -21,7 +21,7 @@ use Rattle.model.specs.Events.{writeEvent}
 use Rattle.model.specs.Decision.{standing, decision}
 use Rattle.model.specs.Step.{enter, step}
 use Rattle.model.specs.Calls.{reading, readCall}
-use Rattle.model.proofs.Worked.{policy, zeros, install, remove, start, ask, left, computed}
+use Rattle.model.proofs.Worked.{policy, zeros, install, remove, start, ask, answers, left, computed}
 use Rattle.model.proofs.Cases.{short, counted}
 use Rattle.model.proofs.Edges.{slot, runs}
 
@@ -73,6 +73,11 @@ installed-next : let s = left (install 10 0 0b110 2 ∷ start 10 ∷ ask 1 (Allo
     (t .session ≡ s .session) × (getD (t .slots) 1 free ≡ slot 11 2 0b10 0b100 0 0)
 unfolding computed
 installed-next = (refl, refl)
+
+-- a permission may be required and optional at once, and then it is declared
+both-sets : answers (install 10 0b100 0b100 2 ∷ start 10 ∷ ask 2 None ∷ []) ≡ (plain 0 ∷ plain 0 ∷ ASK 3 ∷ [])
+unfolding computed
+both-sets = refl
 
 -- a remove leaves another suite's session as it is, and the slot free
 removed-next : (next (runs 11 2 0) (remove 10) .session ≡ runs 11 2 0 .session) × (next (runs 11 2 0) (remove 10) .slots ≡ (free ∷ []))
