@@ -2,5 +2,5 @@
 use libc::STDOUT_FILENO;
 
 fn main() {
-    reports::report(STDOUT_FILENO, b"policy.bin", b"events.bin");
+    reports::print(STDOUT_FILENO, b"policy.bin", b"events.bin");
 }

@@ -4,7 +4,7 @@ use libc::STDOUT_FILENO;
 fn edge(label: &[u8], policy_path: &[u8], events_path: &[u8]) {
     io::write_all(STDOUT_FILENO, label);
     io::write_all(STDOUT_FILENO, b"\n");
-    reports::report(STDOUT_FILENO, policy_path, events_path);
+    reports::print(STDOUT_FILENO, policy_path, events_path);
 }
 
 fn main() {

@@ -1,1 +1,2 @@
-pub mod Reported
+pub mod Text
+pub mod Steps

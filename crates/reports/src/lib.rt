@@ -1,8 +1,121 @@
 // The report of a run: the answer to each event of a file, from a new state, under the policy of another file.
+ghost use mathlib.Core.Path.{_≡_};
+ghost use mathlib.Core.List.{_++_};
+ghost use Prim.Native.Nat.{_*_, _/_, _≤_};
+ghost use lib.ListN.{length, replicate};
 ghost use Rattle.io.specs.Counts.{Counts};
-ghost use Rattle.reports.specs.Reported.{FromNew, Reported};
+ghost use Rattle.model.specs.Events.{eventSize};
+ghost use Rattle.model.specs.Calls.{answerSize};
+ghost use Rattle.reports.specs.Text.{decimal, line, lines, closing, textOf, reportText};
+ghost use Rattle.reports.specs.Text.{mostEvents, textSize, made, textCall};
+ghost use Rattle.reports.specs.Steps.{Room, Puts, roomFor, OfFiles};
 
-// The number of bytes that it put at the start of `bytes`: none for a file that does not open, and no more than fit.
+const MOST_EVENTS: usize = 2000;
+
+// A line of 13 bytes for each event, and the last line.
+pub const TEXT_SIZE: usize = 13 * MOST_EVENTS + 9;
+
+// ---- the text, part by part: each goes into `lent` from `at` on, and the place behind it is returned
+
+fn put(lent: &mut [u8], at: usize, part: &[u8]) -> usize
+    requires { ⌜ Room (now part) (now lent) at ⌝ }
+    ensures { λ r. ⌜ Puts (now (part .entry)) (now (lent .entry)) at (now (lent .exit)) r ⌝ }
+{
+    at + bytes::copy(part, &mut lent[at..])
+}
+
+fn put_number(lent: &mut [u8], at: usize, number: u64, behind: &[u8]) -> usize
+    requires { ⌜ Room (decimal number ++ now behind) (now lent) at ⌝ }
+    ensures { λ r. ⌜ Puts (decimal number ++ now (behind .entry)) (now (lent .entry)) at (now (lent .exit)) r ⌝ }
+{
+    let mut digits = [0u8; 20];
+    let count = io::decimal(number, &mut digits);
+    let next = put(lent, at, &digits[..count]);
+    put(lent, next, behind)
+}
+
+fn put_line(lent: &mut [u8], at: usize, index: usize, number: u8, detail: u8) -> usize
+    requires { ⌜ Room (line index number detail) (now lent) at ⌝ }
+    ensures { λ r. ⌜ Puts (line index number detail) (now (lent .entry)) at (now (lent .exit)) r ⌝ }
+{
+    let second = put_number(lent, at, index as u64, b" ");
+    let third = put_number(lent, second, number as u64, b" ");
+    put_number(lent, third, detail as u64, b"\n")
+}
+
+fn put_lines(lent: &mut [u8], count: usize, answers: &[u8]) -> usize
+    requires { ⌜ (answerSize * count ≤ length (now answers)) × Room (lines count (now answers)) (now lent) 0 ⌝ }
+    ensures { λ r. ⌜ Puts (lines count (now (answers .entry))) (now (lent .entry)) 0 (now (lent .exit)) r ⌝ }
+{
+    let mut at: usize = 0;
+    let mut i: usize = 0;
+    while i < count {
+        let pair = monitor::ANSWER_SIZE * i;
+        at = put_line(lent, at, i, answers[pair], answers[pair + 1]);
+        i += 1;
+    }
+    at
+}
+
+fn put_closing(lent: &mut [u8], at: usize, word: &[u8], number: u64) -> usize
+    requires { ⌜ Room (closing (now word) number) (now lent) at ⌝ }
+    ensures { λ r. ⌜ Puts (closing (now (word .entry)) number) (now (lent .entry)) at (now (lent .exit)) r ⌝ }
+{
+    let next = put(lent, at, word);
+    put_number(lent, next, number, b"\n")
+}
+
+fn put_text(lent: &mut [u8], ran: monitor::Counted, answers: &[u8]) -> usize
+    requires { ⌜ (ran .count ≤ mostEvents) × (answerSize * ran .count ≤ length (now answers))
+        × (textSize ≤ length (now lent)) ⌝ }
+    ensures { λ r. ⌜ Puts (textOf (ran .response) (ran .count) (now (answers .entry))) (now (lent .entry)) 0 (now (lent .exit)) r ⌝ }
+{
+    let response = ran.response;
+    let count = ran.count;
+    let refused = response.refused();
+    if refused {
+        return put_closing(lent, 0, b"refused ", response.number as u64);
+    }
+    let at = put_lines(lent, count, answers);
+    put_closing(lent, at, b"end ", count as u64)
+}
+
+// ---- the report
+
+fn room_for(count: usize) -> usize
+    ensures { λ r. ⌜ r ≡ roomFor count ⌝ }
+{
+    if MOST_EVENTS < count {
+        return 0;
+    }
+    monitor::ANSWER_SIZE * count
+}
+
+// The run is from a new state. `answers` has the room that the events ask for.
+fn put_report(lent: &mut [u8], policy: &[u8], events: &[u8], answers: &mut [u8]) -> usize
+    requires { ⌜ (textSize ≤ length (now lent)) × (now answers ≡ replicate (roomFor (length (now events) / eventSize)) 0) ⌝ }
+    ensures { λ r. ⌜ Puts (reportText (now (policy .entry)) (now (events .entry))) (now (lent .entry)) 0 (now (lent .exit)) r ⌝ }
+{
+    let mut state = [0u8; store::STATE_SIZE];
+    let ran = monitor::run(policy, &mut state, events, answers);
+    put_text(lent, ran, answers)
+}
+
+// The text of the report on the bytes of a policy and of events, at the start of what is lent, and its size.
+pub fn text(policy: &[u8], events: &[u8], lent: &mut [u8]) -> usize
+    ensures { λ r. ⌜ made r (now (lent .exit)) ≡ textCall (now (policy .entry)) (now (events .entry)) (now (lent .entry)) ⌝ }
+{
+    if lent.len() < TEXT_SIZE {
+        return 0;
+    }
+    let mut answers = [0u8; monitor::ANSWER_SIZE * MOST_EVENTS];
+    let room = room_for(events.len() / events::EVENT_SIZE);
+    put_report(lent, policy, events, &mut answers[..room])
+}
+
+// ---- the files: what is read of them and where it is written is all that no contract says
+
+// What the file has, as far as `bytes` has room, and how much that is: nothing where it does not open.
 fn read_file(path: &[u8], bytes: &mut [u8]) -> usize
     ensures { λ r. ⌜ Counts r (now (bytes .exit)) ⌝ }
 {
@@ -15,66 +128,20 @@ fn read_file(path: &[u8], bytes: &mut [u8]) -> usize
     size
 }
 
-fn print_number(out: i32, before: &[u8], number: u64) {
-    io::write_all(out, before);
-    io::print_decimal(out, number);
-}
-
-fn print_answer(out: i32, index: usize, number: u8, detail: u8) {
-    io::print_decimal(out, index as u64);
-    print_number(out, b" ", number as u64);
-    print_number(out, b" ", detail as u64);
-    io::write_all(out, b"\n");
-}
-
-// A line for each event, from its two bytes.
-fn print_answers(out: i32, answers: &[u8]) {
-    let count = answers.len() / 2;
-    let mut i: usize = 0;
-    while i < count {
-        print_answer(out, i, answers[2 * i], answers[2 * i + 1]);
-        i += 1;
-    }
-}
-
-fn run_new(policy: &[u8], events: &[u8], answers: &mut [u8]) -> monitor::Counted
-    ensures { λ r. ⌜ FromNew (now (policy .entry)) (now (events .entry)) (now (answers .entry)) r ⌝ }
+// A byte more than is taken is read of each file, so that a longer one is seen to be longer.
+fn text_of_files(policy_path: &[u8], events_path: &[u8], lent: &mut [u8]) -> usize
+    ensures { λ r. ⌜ OfFiles (now (lent .entry)) (now (lent .exit)) r ⌝ }
 {
-    let mut state = [0u8; 1320];
-    monitor::new_state(&mut state);
-    monitor::run(policy, &mut state, events, answers)
-}
-
-// `answers` has two bytes for each whole record, as `run` asks.
-fn print_run(out: i32, policy: &[u8], events: &[u8], answers: &mut [u8]) -> monitor::Counted
-    ensures { λ r. ⌜ FromNew (now (policy .entry)) (now (events .entry)) (now (answers .entry)) r ⌝ }
-{
-    let ran = run_new(policy, events, answers);
-    let response = ran.response;
-    if response.number == 0 {
-        print_answers(out, answers);
-        print_number(out, b"end ", ran.count as u64);
-    } else {
-        print_number(out, b"refused ", response.number as u64);
-    }
-    io::write_all(out, b"\n");
-    ran
-}
-
-// A byte past the most is read as well, so that `run` sees a longer policy's wrong size, and events past 2,000 as a broken record.
-pub fn report(out: i32, policy_path: &[u8], events_path: &[u8]) -> monitor::Counted
-    ensures { λ r. ⌜ Reported r ⌝ }
-{
-    let mut policy = [0u8; 513];
+    let mut policy = [0u8; checks::POLICY_SIZE + 1];
     let policy_size = read_file(policy_path, &mut policy);
-    let mut events = [0u8; 48001];
+    let mut events = [0u8; events::EVENT_SIZE * MOST_EVENTS + 1];
     let events_size = read_file(events_path, &mut events);
-    let mut answers = [0u8; 4000];
-    let answers_size = 2 * (events_size / 24);
-    print_run(
-        out,
-        &policy[..policy_size],
-        &events[..events_size],
-        &mut answers[..answers_size],
-    )
+    text(&policy[..policy_size], &events[..events_size], lent)
+}
+
+// Prints the report on two files; a file that does not open has length 0.
+pub fn print(out: i32, policy_path: &[u8], events_path: &[u8]) {
+    let mut lent = [0u8; TEXT_SIZE];
+    let size = text_of_files(policy_path, events_path, &mut lent);
+    io::write_all(out, &lent[..size]);
 }

@@ -189,17 +189,17 @@ fn enter(
 {
     match u {
         device::UserAnswer::None => {}
-        device::UserAnswer::Allow(m) => keep(
+        device::UserAnswer::Allow(allowed) => keep(
             state,
             at,
-            m,
+            allowed,
             session_with(session, rules::grant(session.decisions, p)),
             slot_with(slot, rules::grant(slot.decisions, p)),
         ),
-        device::UserAnswer::Deny(m) => keep(
+        device::UserAnswer::Deny(denied) => keep(
             state,
             at,
-            m,
+            denied,
             session_with(session, rules::revoke(session.decisions, p)),
             slot_with(slot, rules::revoke(slot.decisions, p)),
         ),
