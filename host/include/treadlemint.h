@@ -22,7 +22,7 @@ extern "C" {
 #endif
 
 /*
- * Sizes in bytes. Numbers wider than a byte are little-endian; permission p is bit p of a set.
+ * Sizes in bytes. A number has its lowest byte first; permission p is bit p of a set.
  *
  * session record  0-1 running suite (0: none), 8-15 granted, 16-23 revoked, the rest zero
  * slot record     0-1 suite (0: free slot), 2 domain, 3-7 zero, 8-15 required, 16-23 optional,
@@ -44,14 +44,14 @@ enum tm_answer_number {
     TM_ALLOWED = 1,           /* the request is allowed */
     TM_DENIED = 2,            /* the request is denied */
     TM_ASK = 3,               /* ask the user; detail: the cell, the widest mode to allow in */
-    TM_BAD_POLICY = 16,       /* not 512 bytes, or a cell above 4 */
-    TM_BAD_STATE = 17,        /* wrong size, or not valid under the policy */
-    TM_BAD_EVENT = 18,        /* not 24 bytes, or a field wrong */
+    TM_BAD_POLICY = 16,       /* of another size than 512 bytes, or with a cell past 4 */
+    TM_BAD_STATE = 17,        /* of another size, or broken, or against the policy */
+    TM_BAD_EVENT = 18,        /* no event's record */
     TM_NO_SESSION = 19,       /* terminate or request, nothing running */
     TM_BUSY = 20,             /* start, a suite running */
-    TM_NOT_INSTALLED = 21,    /* remove, start or find, no such suite */
+    TM_NOT_INSTALLED = 21,    /* the suite to remove, start or find is not there */
     TM_INSTALLED = 22,        /* install, number present */
-    TM_NOT_OFFERED = 23,      /* install, a required permission has cell 0; detail: the lowest */
+    TM_NOT_OFFERED = 23,      /* the domain lacks a required permission; detail: the lowest */
     TM_NO_ROOM = 24,          /* install, no free slot */
     TM_ACTIVE = 25,           /* remove of the running suite */
     TM_NOT_DECLARED = 26,     /* request, the permission is not declared */

@@ -48,7 +48,7 @@ width Blanket = 3
 unfoldable pub modeOf : ℕ → Mode
 modeOf n = cond (eqb n (width Oneshot)) Oneshot (cond (eqb n (width Session)) Session Blanket)
 
--- sets of permissions are numbers of 64 bits, in which permission p is worth 2 to the power p
+-- sets of permissions are numbers of 64 bits, a bit for each
 abbrev pub isSet : ℕ → Bool
 isSet set = ltb set (2 ^ permissionCount)
 

@@ -41,7 +41,7 @@ pub enum Standing {
     Revoked,
 }
 
-// Sets of permissions: permission p is the bit worth 2 to the power p.
+// Sets of permissions, bit p for permission p.
 pub struct Descriptor {
     pub required: u64,
     pub optional: u64,

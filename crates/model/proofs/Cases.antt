@@ -49,7 +49,7 @@ pub own-decisions : answers (install 10 0 0b100 2 ∷ install 11 0 0b100 2
 unfolding computed
 own-decisions = refl
 
--- a session's yes and no end with it; a removed suite's decisions are gone, also for the next suite with its number
+-- a session's yes and no end with it; a removed suite's decisions are gone, also where another takes its number
 pub decisions-end : answers (install 10 0 0b110 2 ∷ start 10 ∷ ask 1 (Allow session) ∷ ask 2 (Allow blanket) ∷ Terminate
     ∷ start 10 ∷ ask 1 None ∷ ask 2 None ∷ Terminate
     ∷ remove 10 ∷ install 10 0 0b110 2 ∷ start 10 ∷ ask 2 None ∷ [])

@@ -1,7 +1,7 @@
 -- 01, What each event does: the decision on a request. 004, Figures 2.2 to 2.4, with four differences that 01 decides: an
 -- undeclared permission is refused (26) where 004 answers denied; one with cell 0 is refused (27) where 004 leaves the response
--- open; cell 4 goes before a standing decision, where 004's algorithm looks at decisions first; and ASK is the answer where 000
--- has a failed precondition and no response.
+-- open; cell 4 goes before a standing decision, where 004's algorithm looks at decisions first; and ASK is an answer, where 000
+-- only has a precondition that fails.
 use Prim.Native.Nat.{ℕ}
 use mathlib.Core.Bool.{Bool, true, false, not, _&&_, _||_, cond}
 use Rattle.words.specs.Sets.{insert}

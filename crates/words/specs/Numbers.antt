@@ -1,4 +1,4 @@
--- 01, Numbers of the device: numbers wider than a byte are little-endian. One definition each way, for every width.
+-- 01, Numbers of the device: a number in bytes, the lowest byte first. One definition each way, for every width.
 use Prim.Native.Nat.{ℕ, zero, suc, _+_, _*_, _/_, _%_}
 use mathlib.Core.List.{List, [], _∷_}
 use lib.ListN.{getD}

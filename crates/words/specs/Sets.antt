@@ -1,4 +1,4 @@
--- 01, Numbers of the device: a set of permissions is a 64-bit number; permission p is the bit worth 2 to the power p.
+-- 01, Numbers of the device: sets of small numbers, each a bit of one number.
 use Prim.Native.Nat.{ℕ, _-_, _*_, _/_, _%_, _^_}
 use mathlib.Core.Bool.{Bool}
 use lib.Bits.{bitOr}

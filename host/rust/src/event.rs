@@ -42,11 +42,10 @@ pub enum Answer {
 
 /// One thing that happens to the device.
 ///
-/// A set of permissions is a number: permission p is the bit worth 2 to the
-/// power p.
+/// A set of permissions is a number, with bit p for permission p.
 #[derive(Clone, Copy, Debug, PartialEq, Eq, Hash)]
 pub enum Event {
-    /// A suite is installed in a domain; a permission may be both required and optional.
+    /// A suite is installed in a domain; its two sets may overlap.
     Install {
         /// The new suite.
         suite: Suite,

@@ -78,9 +78,9 @@ pub const RECORD_SIZE: usize = 40;
 
 /// What each domain offers: 8 rows of 64 cells, one row for each domain.
 ///
-/// Cell p of a row is 0 if the domain does not offer permission p; 1, 2 or 3
-/// if it does with the user's consent up to that [`Mode`]; 4 if it allows
-/// without asking.
+/// Cell p of a row says what becomes of permission p: 0, it is not offered; 1,
+/// 2 or 3, the user is asked, and this is the widest [`Mode`] of a yes; 4, it
+/// is allowed and nobody is asked.
 #[derive(Clone, Copy, Debug)]
 pub struct Policy<'a> {
     cells: &'a [u8],

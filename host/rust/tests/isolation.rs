@@ -1,13 +1,13 @@
 //! One suite's course does not depend on other suites' user decisions.
 //!
-//! A trial takes one suite number and one policy and starts from two valid
-//! states equal but for other suites' decisions, those of a session of theirs
-//! included. It feeds two event lists, equal at each place, but that a request
-//! made while that suite is not running may be any other request. After each
-//! event the running suite, the wanted suite's stored record and, while it
-//! runs, its session must be equal; so must all answers, save those to
-//! requests made while it is not running. `TM_LONG=1` makes fifty times as
-//! many trials.
+//! A trial chooses a suite and a policy, and two valid states that differ in
+//! what the user decided for other suites, stored or in their session, and in
+//! nothing else. Two lists of events are fed to them, which differ only where
+//! another suite, or none, runs, and then only in one request for another.
+//! The same suite must run after each event in both, what is stored for the
+//! chosen one must be the same, and so must its session while it runs and
+//! every answer, but to the requests that may differ. `TM_LONG=1` makes fifty
+//! times as many trials.
 
 mod support {
     pub mod budget;

@@ -6,7 +6,7 @@ use treadlemint::{
 
 const MODES: [Mode; 3] = [Mode::Oneshot, Mode::Session, Mode::Blanket];
 
-/// Domain 2 has cells 4, 2, 3, 1 for permissions 0 to 3; every other cell is 0.
+/// Offers four permissions, in domain 2: allowed, up to session, up to blanket, oneshot.
 fn listing_cells() -> [u8; 512] {
     let mut cells = [0; 512];
     cells[128..132].copy_from_slice(&[4, 2, 3, 1]);

@@ -35,7 +35,7 @@ pub enum Fault {
     Suite0Found,
     /// A oneshot yes is kept for the session.
     OneshotKept,
-    /// A denial is held to the cell's mode, as an allowance is.
+    /// A denial wider than the cell is refused.
     DenialBounded,
     /// No room is left once the last slot is used, whatever is free before it.
     NoRoomWithHole,

@@ -13,7 +13,7 @@ const ALLOW_BLANKET: u8 = 3;
 const DENY_SESSION: u8 = 5;
 const DENY_BLANKET: u8 = 6;
 
-/// Domain 2 has cells 4, 2, 3, 1 for permissions 0 to 3; every other cell is 0.
+/// Offers four permissions, in domain 2: allowed, up to session, up to blanket, oneshot.
 fn listing_policy() -> [u8; 512] {
     let mut policy = [0; 512];
     policy[128..132].copy_from_slice(&[4, 2, 3, 1]);
