@@ -42,3 +42,9 @@ pub record OfFiles (before after : List ℕ) (size : ℕ) : Type 0 where
   pub events-read : length events ≤ eventsRead
   pub counts : Counts size after
   pub text : made size after ≡ textCall policy events before
+
+-- so many of some such bytes; that they are written is what no contract can say
+pub record Printed (size : ℕ) : Type 0 where
+  pub before : List ℕ
+  pub lent : List ℕ
+  pub of-files : OfFiles before lent size

@@ -8,7 +8,7 @@ ghost use Rattle.model.specs.Events.{eventSize};
 ghost use Rattle.model.specs.Calls.{answerSize};
 ghost use Rattle.reports.specs.Text.{decimal, line, lines, closing, textOf, reportText};
 ghost use Rattle.reports.specs.Text.{mostEvents, textSize, made, textCall};
-ghost use Rattle.reports.specs.Steps.{Room, Puts, roomFor, OfFiles};
+ghost use Rattle.reports.specs.Steps.{Room, Puts, roomFor, OfFiles, Printed};
 
 const MOST_EVENTS: usize = 2000;
 
@@ -139,9 +139,12 @@ fn text_of_files(policy_path: &[u8], events_path: &[u8], lent: &mut [u8]) -> usi
     text(&policy[..policy_size], &events[..events_size], lent)
 }
 
-// Prints the report on two files; a file that does not open has length 0.
-pub fn print(out: i32, policy_path: &[u8], events_path: &[u8]) {
+// Prints the report on two files, of which one that does not open has length 0, and tells how long it is.
+pub fn print(out: i32, policy_path: &[u8], events_path: &[u8]) -> usize
+    ensures { λ r. ⌜ Printed r ⌝ }
+{
     let mut lent = [0u8; TEXT_SIZE];
     let size = text_of_files(policy_path, events_path, &mut lent);
     io::write_all(out, &lent[..size]);
+    size
 }
