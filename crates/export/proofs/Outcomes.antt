@@ -19,7 +19,7 @@ use Rattle.model.proofs.Numbers.{new-number, read-number, write-number, check-n
 use Rattle.events.proofs.Outcomes.{write-refused}
 use Rattle.checks.proofs.Outcomes.{new-refused}
 use Rattle.checks.proofs.Finding.{part-none, part-slot, found-place}
-use Rattle.monitor.proofs.Outcomes.{step-refusal, run-refusal}
+use Rattle.promises.proofs.Outcomes.{step-refusal, run-refusal}
 use Rattle.export.specs.Packed.{packed, unpacked, packedPart, unpackedPart, refusedNo, sent, packedCall, sentRun, packedRun}
 use Rattle.export.proofs.Packing.{answer-unpacked, part-unpacked}
 

@@ -1,3 +1,1 @@
 pub mod Turned
-pub mod InTurn
-pub mod Isolation

@@ -22,11 +22,11 @@ use Rattle.model.proofs.Cases.{counted as numbers}
 use Rattle.model.proofs.Kept.{record-kept}
 use Rattle.model.proofs.Faulty.{f, ten, w, asked, unasked, alike, damaged}
 use Rattle.model.proofs.IsolationClaims.{terminate, start-11, ask-2, allow-2, then-11, not-running}
-use Rattle.monitor.specs.InTurn.{stepsCall}
-use Rattle.monitor.specs.Isolation.{isOf, isRunningIn, isDecision, isOthersDecision, AlikeBytes, suiteRecord, AgreeBytes}
-use Rattle.monitor.specs.Isolation.{ReplacedBytes, PlaceBytes, IsolatedBytes, answerAt, IsolatedRuns}
-use Rattle.monitor.proofs.InTurn.{step-written}
-use Rattle.monitor.proofs.Isolation.{written-alike}
+use Rattle.promises.specs.InTurn.{stepsCall}
+use Rattle.promises.specs.Isolation.{isOf, isRunningIn, isDecision, isOthersDecision, AlikeBytes, suiteRecord, AgreeBytes}
+use Rattle.promises.specs.Isolation.{ReplacedBytes, PlaceBytes, IsolatedBytes, answerAt, IsolatedRuns}
+use Rattle.promises.proofs.InTurn.{step-written}
+use Rattle.promises.proofs.Isolation.{written-alike}
 
 -- ---- the lent states
 

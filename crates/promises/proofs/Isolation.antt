@@ -35,10 +35,10 @@ use Rattle.store.proofs.Records.{length-slot, length-session, slots-get}
 use Rattle.store.proofs.Holding.{slots-held}
 use Rattle.store.proofs.Zeros.{well-formed}
 use Rattle.store.proofs.Written.{valid-holds}
-use Rattle.monitor.specs.InTurn.{stepsCall}
-use Rattle.monitor.specs.Isolation.{isOf, isRunningIn, isDecision, isOthersDecision, AlikeBytes, suiteRecord, AgreeBytes}
-use Rattle.monitor.specs.Isolation.{ReplacedBytes, PlaceBytes, IsolatedBytes, answerAt, IsolatedRuns}
-use Rattle.monitor.proofs.InTurn.{valid-passes, run-in-turn}
+use Rattle.promises.specs.InTurn.{stepsCall}
+use Rattle.promises.specs.Isolation.{isOf, isRunningIn, isDecision, isOthersDecision, AlikeBytes, suiteRecord, AgreeBytes}
+use Rattle.promises.specs.Isolation.{ReplacedBytes, PlaceBytes, IsolatedBytes, answerAt, IsolatedRuns}
+use Rattle.promises.proofs.InTurn.{valid-passes, run-in-turn}
 
 -- ---- lent states that are alike hold states that are alike
 

@@ -23,9 +23,9 @@ use Rattle.model.proofs.Runs.{after-append, responses-append, left-out}
 use Rattle.model.proofs.Calls.{passed}
 use Rattle.store.proofs.Zeros.{well-formed}
 use Rattle.store.proofs.Written.{valid-written, valid-holds}
-use Rattle.monitor.specs.InTurn.{stepsCall}
+use Rattle.promises.specs.InTurn.{stepsCall}
 use Rattle.monitor.proofs.Laws.{fit-parts}
 use Rattle.monitor.proofs.Runs.{length-events, length-responses, length-output, output-append}
 
 module _ (policy : List ℕ) (good : policyValid policy ≡ true) where
   abbrev f : Fixed

@@ -12,7 +12,7 @@ use Rattle.model.specs.State.{recordSize}
 use Rattle.device.specs.Answers.{DONE}
 use Rattle.model.specs.Calls.{Called, Ran, checkCall, stepCall, partCall, recordAt, recordsFrom, answerSize}
 use Rattle.model.specs.Isolation.{MayReplace, excused}
-use Rattle.monitor.specs.InTurn.{stepsCall}
+use Rattle.promises.specs.InTurn.{stepsCall}
 
 -- ---- the lent states
 

@@ -1,0 +1,4 @@
+pub mod Outcomes
+pub mod InTurn
+pub mod Isolation
+pub mod IsolationClaims
