@@ -1,4 +1,4 @@
-// The report of a run: the answer to each event of a file, from a new state, under the policy of another file.
+// The report of a run: the answer to each event, from a new state under a policy, as text; and printed, for two files.
 ghost use mathlib.Core.Path.{_≡_};
 ghost use mathlib.Core.List.{_++_};
 ghost use Prim.Native.Nat.{_*_, _/_, _≤_};
@@ -12,7 +12,7 @@ ghost use Rattle.reports.specs.Steps.{Room, Puts, roomFor, OfFiles, Prin
 
 const MOST_EVENTS: usize = 2000;
 
-// A line of 13 bytes for each event, and the last line.
+// A line of at most 13 bytes for each event, and the last line.
 pub const TEXT_SIZE: usize = 13 * MOST_EVENTS + 9;
 
 // ---- the text, part by part: each goes into `lent` from `at` on, and the place behind it is returned
@@ -82,6 +82,7 @@ fn put_text(lent: &mut [u8], ran: monitor::Counted, answers: &[u8]) -> usize
 
 // ---- the report
 
+// How many bytes of answers the events are lent: none where they are too many, so that the run refuses them.
 fn room_for(count: usize) -> usize
     ensures { λ r. ⌜ r ≡ roomFor count ⌝ }
 {
@@ -91,7 +92,6 @@ fn room_for(count: usize) -> usize
     monitor::ANSWER_SIZE * count
 }
 
-// The run is from a new state. `answers` has the room that the events ask for.
 fn put_report(lent: &mut [u8], policy: &[u8], events: &[u8], answers: &mut [u8]) -> usize
     requires { ⌜ (textSize ≤ length (now lent)) × (now answers ≡ replicate (roomFor (length (now events) / eventSize)) 0) ⌝ }
     ensures { λ r. ⌜ Puts (reportText (now (policy .entry)) (now (events .entry))) (now (lent .entry)) 0 (now (lent .exit)) r ⌝ }
@@ -101,7 +101,8 @@ fn put_report(lent: &mut [u8], policy: &[u8], events: &[u8], answers: &mut [u8])
     put_text(lent, ran, answers)
 }
 
-// The text of the report on the bytes of a policy and of events, at the start of what is lent, and its size.
+// The text for the bytes of a policy and of events, at the start of what is lent, and its size: none where less than TEXT_SIZE
+// bytes are lent.
 pub fn text(policy: &[u8], events: &[u8], lent: &mut [u8]) -> usize
     ensures { λ r. ⌜ made r (now (lent .exit)) ≡ textCall (now (policy .entry)) (now (events .entry)) (now (lent .entry)) ⌝ }
 {
@@ -113,9 +114,9 @@ pub fn text(policy: &[u8], events: &[u8], lent: &mut [u8]) -> usize
     put_report(lent, policy, events, &mut answers[..room])
 }
 
-// ---- the files: what is read of them and where it is written is all that no contract says
+// ---- the files: what is read of them, and that the text is written, is all that no contract says
 
-// What the file has, as far as `bytes` has room, and how much that is: nothing where it does not open.
+// What the file has, as far as `bytes` has room, and how much that is: nothing where it does not open. 0 is a descriptor too.
 fn read_file(path: &[u8], bytes: &mut [u8]) -> usize
     ensures { λ r. ⌜ Counts r (now (bytes .exit)) ⌝ }
 {
@@ -128,7 +129,7 @@ fn read_file(path: &[u8], bytes: &mut [u8]) -> usize
     size
 }
 
-// A byte more than is taken is read of each file, so that a longer one is seen to be longer.
+// A byte more than is taken is read of each file, and no more: a longer file has the same text as that part of it.
 fn text_of_files(policy_path: &[u8], events_path: &[u8], lent: &mut [u8]) -> usize
     ensures { λ r. ⌜ OfFiles (now (lent .entry)) (now (lent .exit)) r ⌝ }
 {
