@@ -1,4 +1,6 @@
 // What a terminal lends, checked for itself: the policy, and the whole stored state, a word at a time.
+#![tactic(auto)]
+
 ghost use Rattle.std.specs.Prelude.{◌≡◌, true, not, ◌&&◌, [], suc, ◌+◌, ◌*◌, ◌<◌, length, replicate};
 ghost use Rattle.device.specs.declared.Mode.{Mode};
 ghost use Rattle.device.specs.declared.Mode.TheVariants.{Oneshot};

@@ -1,4 +1,6 @@
 // The types of the monitor, after documents 01 and 000, and the functions on them alone.
+#![tactic(auto)]
+
 ghost use Rattle.std.specs.Prelude.{◌≡◌};
 ghost use Rattle.device.specs.Device.{is_suite, is_permission, is_domain, width, mode_of};
 ghost use Rattle.device.specs.Cells.{offered, unconditional, highest};
@@ -172,6 +174,7 @@ impl Mode {
     }
 
     // The mode with that number; the widest for a number that is none's.
+    #[tactic(auto, unfolding(crate::specs::Device::mode_of))]
     pub fn of(number: u8) -> Mode
         ensures { result ≡ mode_of number }
     {
@@ -185,6 +188,7 @@ impl Mode {
     }
 
     // The highest mode that a cell of the policy takes, for every byte.
+    #[tactic(auto, unfolding(crate::specs::Cells::highest))]
     pub fn highest(cell: u8) -> Consent
         ensures { result ≡ highest cell }
     {
@@ -208,6 +212,7 @@ impl UserAnswer {
     }
 
     // The answer with that number, for every byte; none where there is none.
+    #[tactic(auto, unfolding(crate::specs::UserAnswers::answer_of))]
     pub fn of(number: u8) -> UserAnswer
         ensures { result ≡ answer_of number }
     {

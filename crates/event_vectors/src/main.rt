@@ -1,4 +1,6 @@
 // Outside vectors through `read_event` and `write_event`; what is printed is held to the file stdout.
+#![tactic(auto)]
+
 ghost use Rattle.std.specs.Prelude.{◌<◌};
 
 use libc::STDOUT_FILENO;

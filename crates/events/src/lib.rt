@@ -1,4 +1,6 @@
 // An event record, read and written.
+#![tactic(auto)]
+
 ghost use Rattle.std.specs.Prelude.{◌≡◌, cond, length};
 ghost use Rattle.device.specs.declared.Event.TheVariants.{Unreadable};
 ghost use Rattle.model.specs.Events.{event_size, fields_at, field_bytes, numbers, fields_of, event_of, carried, read_event};

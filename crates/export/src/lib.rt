@@ -1,5 +1,7 @@
 // The monitor for C: a slice is a pointer and a length, an answer is `number | detail << 8`. Each call takes every input and has no
 // precondition.
+#![tactic(auto)]
+
 ghost use Rattle.std.specs.Prelude.{◌≡◌, suc, ◌*◌, ◌<◌};
 ghost use Rattle.device.specs.Device.{slot_count};
 ghost use Rattle.model.specs.State.{record_size};

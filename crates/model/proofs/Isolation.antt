@@ -308,4 +308,4 @@ isolation f w s t like [] es' h = tt
 isolation f w s t like (e ∷ es) [] h = tt
 isolation f w s t like (e ∷ es) (e' ∷ es') h =
     let here = one_place f w s t like e e' h.0 in
-    (here, isolation f w _ _ here.alike es es' h.1)
+    (here, isolation f w (step f s (read_event e)).state (step f t (read_event e')).state here.alike es es' h.1)

@@ -36,7 +36,7 @@ use Rattle.model.specs.Decision.{standing, given, grant, revoke}
 use Rattle.model.specs.Step.{Outcome, answer, in_session, lacking, installed, running_slot, judged, session_deciding}
 use Rattle.model.specs.Step.{slot_deciding, keep, enter, request, step}
 use Rattle.model.specs.Run.{after}
-use Rattle.model.specs.Calls.{records_from, events_from}
+use Rattle.model.specs.Calls.{record_at, records_from, events_from}
 use Rattle.model.proofs.Tests.{both, all_three, cases, same_sym, every_all}
 use Rattle.model.proofs.Slots.{same_suite_lem, find_suite, length-amend, carries_deciding, find_deciding, carries_put}
 use Rattle.model.proofs.Slots.{find_put}
@@ -263,7 +263,9 @@ record_kept f s v b = read_event_lem (λ e. valid f (step f s e).state ≡ true)
 pub run_kept : (f : Fixed) (s : State) → valid f s ≡ true → (b : List ℕ) (n i : ℕ) → valid f (after f s (events_from b n i)) ≡ true
 unfolding after records_from
 run_kept f s v b zero i = v
-run_kept f s v b (suc n) i = run_kept f _ (record_kept f s v _) b n (suc i)
+run_kept f s v b (suc n) i =
+    let e = record_at b i in
+    run_kept f (step f s (read_event e)).state (record_kept f s v e) b n (suc i)
 
 -- a new state is valid under every policy
 free_slots : (f : Fixed) (lower : List Suite) (n : ℕ) → slots_valid f lower (replicate n free) ≡ true

@@ -1,4 +1,6 @@
 // The calls that a terminal links. Each takes every input, however damaged, and has no precondition.
+#![tactic(auto)]
+
 ghost use Rattle.std.specs.Prelude.{◌≡◌, [], ◌∷◌, ◌+◌, ◌*◌, ◌≤◌, length};
 ghost use Rattle.std.proofs.lemmas.List.Edits.{sets};
 ghost use Rattle.model.specs.Policy.{policy_valid, fixed_by};

@@ -1,4 +1,6 @@
 // The report at the edges of what its files may be; what is printed is held to the file stdout.
+#![tactic(auto)]
+
 use libc::STDOUT_FILENO;
 
 fn edge(label: &[u8], policy_path: &[u8], events_path: &[u8]) {

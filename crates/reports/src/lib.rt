@@ -1,4 +1,6 @@
 // The report of a run: the answer to each event, from a new state under a policy, as text; and printed, for two files.
+#![tactic(auto)]
+
 ghost use Rattle.std.specs.Prelude.{◌≡◌, ◌++◌, ◌*◌, ◌/◌, ◌≤◌, length, replicate};
 ghost use Rattle.io.specs.Counts.{IsPrefixLen};
 ghost use Rattle.model.specs.Events.{event_size};

@@ -1,4 +1,6 @@
 // The decision on a request, by value: from what is declared, the cell, what stands and what the user answers.
+#![tactic(auto)]
+
 ghost use Rattle.std.specs.Prelude.{◌≡◌, ◌<◌};
 ghost use Rattle.device.specs.declared.Standing.TheVariants.{Nothing};
 ghost use Rattle.device.specs.Cells.{offered, admits};

@@ -1,5 +1,7 @@
 // A good state damaged at each of its 1,320 bytes, and the answers of `check`, `find` and `suite_record`; what is printed is
 // held to the file stdout.
+#![tactic(auto)]
+
 ghost use Rattle.std.specs.Prelude.{◌≤◌};
 
 use libc::STDOUT_FILENO;

@@ -1,4 +1,6 @@
 // The five events, in place: from bytes that hold a state to bytes that hold the next one.
+#![tactic(auto)]
+
 ghost use Rattle.std.specs.Prelude.{◌≡◌, true, ◌<◌, length};
 ghost use Rattle.device.specs.declared.Decisions.{Decisions};
 ghost use Rattle.device.specs.declared.Event.TheVariants.{Install, Remove, Start, Terminate, Request};

@@ -2,6 +2,8 @@
 //
 // Each width is two calls of half the width: the types then bound every sum, one law over the width
 // (`le_at-add`, `sets_bytes`) closes every proof, and the compiler makes one load or store of it.
+#![tactic(auto)]
+
 ghost use Rattle.std.specs.Prelude.{◌≡◌, ◌+◌, ◌^◌, ◌<◌, ◌≤◌, length, set};
 ghost use Rattle.std.proofs.lemmas.List.Edits.{sets};
 ghost use Rattle.words.specs.Numbers.{le_at, bytes_of};

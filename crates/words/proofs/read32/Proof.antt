@@ -4,7 +4,7 @@ use Rattle.words.proofs.read32.Statement.{statement}
 use Rattle.words.proofs.read32.Tie as tie
 
 returns : tie.Need-returns
-returns c = rw (c.before.read16.ensures, c.read162.ensures, le_at-add 2 2)
+returns c = rw (c.before.read16.ensures, c.read16-2.ensures, le_at-add 2 2)
 
 pub read32_spec : {M : Type 1} → statement M
 read32_spec =

@@ -5,7 +5,7 @@ use Rattle.words.proofs.Sets.{remove_and}
 use Rattle.words.proofs.without.Statement.{statement}
 use Rattle.words.proofs.without.Tie as tie
 
-sub-result : tie.Need-overflow-sub-result
+sub-result : tie.Need-overflow_sub-result
 sub-result c = omega (arith, and_le_l c.before.args.s c.worth.result)
 
 returns : tie.Need-returns

@@ -13,7 +13,7 @@ returns c =
     let a = c.before.before.before.before.before.before.before.before.before.args in
     let e : a.x / 256 % 256 ≡ a.x / 256 = omega arith in
     rw (
-      c.before.before.write82.ensures,
+      c.before.before.write8-2.ensures,
       c.before.before.before.before.before.before.write8.ensures,
       e,
       ← add-one a.i,

@@ -6,7 +6,7 @@ use Rattle.words.proofs.write32.Tie as tie
 returns : tie.Need-returns
 returns c =
     rw (
-      c.before.before.write162.ensures,
+      c.before.before.write16-2.ensures,
       c.before.before.before.before.before.before.write16.ensures,
       ← sets_bytes 2 2,
     )

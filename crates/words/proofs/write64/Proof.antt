@@ -6,7 +6,7 @@ use Rattle.words.proofs.write64.Tie as tie
 returns : tie.Need-returns
 returns c =
     rw (
-      c.before.before.write322.ensures,
+      c.before.before.write32-2.ensures,
       c.before.before.before.before.before.before.write32.ensures,
       ← sets_bytes 4 4,
     )
