@@ -11,17 +11,17 @@ ghost use Rattle.device.specs.Answers.{NO_SESSION, BUSY, NOT_INSTALLED, INSTALLE
 ghost use Rattle.device.specs.Answers.{NOT_DECLARED, NO_RIGHT, ANSWER_NOT_ASKED, MODE_TOO_WIDE, BAD_LENGTH};
 
 // 000's three sets (3.1), kept apart: a suite's number, 0 for no suite; a permission's; a domain's.
-#[derive(Drop)]
+#[derive(Clone, Copy)]
 pub struct Suite(pub u16);
 
-#[derive(Drop)]
+#[derive(Clone, Copy)]
 pub struct Permission(pub u8);
 
-#[derive(Drop)]
+#[derive(Clone, Copy)]
 pub struct Domain(pub u8);
 
 // How long a user's decision holds: for one use, for the session, until the suite is removed.
-#[derive(Drop)]
+#[derive(Clone, Copy)]
 pub enum Mode {
     Oneshot,
     Session,
@@ -29,13 +29,13 @@ pub enum Mode {
 }
 
 // Whether a cell has the user asked, and then the highest mode of a consent.
-#[derive(Drop)]
+#[derive(Clone, Copy)]
 pub enum Consent {
     Unasked,
     UpTo(Mode),
 }
 
-#[derive(Drop)]
+#[derive(Clone, Copy)]
 pub enum UserAnswer {
     None,
     Allow(Mode),
@@ -43,7 +43,7 @@ pub enum UserAnswer {
 }
 
 // The decision that stands on a permission, for the session or for good.
-#[derive(Drop)]
+#[derive(Clone, Copy)]
 pub enum Standing {
     Nothing,
     Granted,
@@ -51,20 +51,20 @@ pub enum Standing {
 }
 
 // Sets of permissions, bit p for permission p.
-#[derive(Drop)]
+#[derive(Clone, Copy)]
 pub struct Descriptor {
     pub required: u64,
     pub optional: u64,
 }
 
-#[derive(Drop)]
+#[derive(Clone, Copy)]
 pub struct Decisions {
     pub granted: u64,
     pub revoked: u64,
 }
 
 // An installed suite with its blanket decisions, or a free slot.
-#[derive(Drop)]
+#[derive(Clone, Copy)]
 pub struct Slot {
     pub suite: Suite,
     pub domain: Domain,
@@ -73,14 +73,14 @@ pub struct Slot {
 }
 
 // The running suite with its session decisions, or nothing.
-#[derive(Drop)]
+#[derive(Clone, Copy)]
 pub struct Session {
     pub suite: Suite,
     pub decisions: Decisions,
 }
 
 // The numbers of an event record, in the order of its bytes; `pad` is what no event uses.
-#[derive(Drop)]
+#[derive(Clone, Copy)]
 pub struct Fields {
     pub kind: u8,
     pub domain: u8,
@@ -93,7 +93,7 @@ pub struct Fields {
 }
 
 // 000, Table 1. A record that is no event is an event of its own, which is refused.
-#[derive(Drop)]
+#[derive(Clone, Copy)]
 pub enum Event {
     Unreadable,
     Install(Suite, Descriptor, Domain),
@@ -104,7 +104,7 @@ pub enum Event {
 }
 
 // The monitor's answer.
-#[derive(Drop)]
+#[derive(Clone, Copy)]
 pub struct Response {
     pub number: u8,
     pub detail: u8,

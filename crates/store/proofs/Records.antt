@@ -1,5 +1,5 @@
 -- A record that is stored is read back, and leaves every other as it was. Assumes nothing.
-use mathlib.Core.Path.{◌≡◌, refl, sym, ap, ap₂, ◌∙◌}
+use mathlib.Core.Path.{◌≡◌, refl, sym, ap, ap₂, subst, ◌∙◌}
 use mathlib.Core.Logic.{◌⊎◌, inl, inr, ⊎_elim}
 use mathlib.Core.List.{List, [], ◌∷◌, ◌++◌}
 use Prim.Native.Nat.{ℕ, zero, suc, ◌+◌, ◌*◌, ◌^◌, ◌≤◌, ◌<◌}
@@ -9,7 +9,7 @@ use lib.ListN.{length, get_or, set, length-append}
 use lib.Seq.{sets}
 use Rattle.words.specs.Numbers.{le_at, bytes_of}
 use Rattle.words.proofs.Numbers.{le_at-bytes}
-use Rattle.words.proofs.Stores.{sets_front, sets_behind, get_d_sets_in, get_d_sets_other, le_at_in, le_at_beside}
+use Rattle.words.proofs.Stores.{sets_front, sets_behind, get_or-sets_in, get_or-sets_other, le_at_in, le_at_beside}
 use Rattle.device.specs.declared.Slot.{Slot}
 use Rattle.device.specs.declared.Session.{Session}
 use Rattle.model.specs.State.{session_at, session_bytes, slot_at, slot_bytes, slots_from, slots_bytes}
@@ -63,7 +63,7 @@ slot_in l a vs e h =
     let at : (w o : ℕ) → o + w ≤ 40 → le_at w (sets l a vs) (a + o) ≡ le_at w vs o = λ w o m. le_at_in w l a vs o b (omega arith) in
     λ k. record {
       suite = record { 0 = (ap (le_at 2 (sets l a vs)) (sym (add-zero a)) ∙ at 2 0 (omega arith)) k };
-      domain = record { 0 = get_d_sets_in l a vs 2 b (omega arith) k };
+      domain = record { 0 = get_or-sets_in l a vs 2 b (omega arith) k };
       descriptor = record { required = at 8 8 (omega arith) k; optional = at 8 16 (omega arith) k };
       decisions = record { granted = at 8 24 (omega arith) k; revoked = at 8 32 (omega arith) k };
     }
@@ -76,7 +76,7 @@ slot_beside l a vs b h =
     λ w o m. le_at_beside w l a vs (b + o) (⊎_elim (λ p. inl (omega arith)) (λ p. inr (omega arith)) h) in
     λ k. record {
       suite = record { 0 = le_at_beside 2 l a vs b (⊎_elim (λ p. inl (omega arith)) (λ p. inr (omega arith)) h) k };
-      domain = record { 0 = get_d_sets_other l a vs (b + 2) (⊎_elim (λ p. inl (omega arith)) (λ p. inr (omega arith)) h) k };
+      domain = record { 0 = get_or-sets_other l a vs (b + 2) (⊎_elim (λ p. inl (omega arith)) (λ p. inr (omega arith)) h) k };
       descriptor = record { required = at 8 8 (omega arith) k; optional = at 8 16 (omega arith) k };
       decisions = record { granted = at 8 24 (omega arith) k; revoked = at 8 32 (omega arith) k };
     }
@@ -108,12 +108,12 @@ pub slots_set : (l : List ℕ) (x : Slot) → SlotFits x → (n a k : ℕ) → k
 unfolding slots_from
 slots_set l x z zero a k h m = absurd (omega arith)
 slots_set l x z (suc n) a zero h m =
-    let e : a + 40 * 0 ≡ a = omega arith in
-    rw e
+    let e : a ≡ a + 40 * 0 = omega arith in
+    subst (λ (q : ℕ). slots_from (sets l q (slot_bytes x)) (suc n) a ≡ set (slots_from l (suc n) a) 0 x) e
     (ap₂ ◌∷◌ (slot_stored l a x z (omega arith)) (slots_beside l a (slot_bytes x) n (a + 40) (inr (omega (arith, length_slot x)))))
 slots_set l x z (suc n) a (suc k) h m =
-    let e : a + 40 * suc k ≡ a + 40 + 40 * k = omega arith in
-    rw e
+    let e : a + 40 + 40 * k ≡ a + 40 * suc k = omega arith in
+    subst (λ (q : ℕ). slots_from (sets l q (slot_bytes x)) (suc n) a ≡ set (slots_from l (suc n) a) (suc k) x) e
     (ap₂ ◌∷◌ (slot_beside l (a + 40 + 40 * k) (slot_bytes x) a (inl (omega arith)))
     (slots_set l x z n (a + 40) k (omega arith) (omega arith)))
 

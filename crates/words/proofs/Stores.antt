@@ -67,32 +67,32 @@ pub sets_field : (w : ℕ) (l : List ℕ) (i : ℕ) (vs : List ℕ) → ((k : �
     → sets l i (bytes_of w (le_at w l i) ++ vs) ≡ sets l (i + w) vs
 sets_field w l i vs h = rw (← sets_then, length-bytes_of, sets_read w l i h)
 
-pub get_d_sets_other : (l : List ℕ) (i : ℕ) (vs : List ℕ) (k : ℕ) → (k < i) ⊎ (i + length vs ≤ k)
+pub get_or-sets_other : (l : List ℕ) (i : ℕ) (vs : List ℕ) (k : ℕ) → (k < i) ⊎ (i + length vs ≤ k)
     → get_or (sets l i vs) k 0 ≡ get_or l k 0
-get_d_sets_other l i [] k h = refl
-get_d_sets_other l i (v ∷ vs) k h =
-    get_d_sets_other (set l i v) (suc i) vs k (⊎_elim (λ b. inl (omega arith)) (λ b. inr (omega arith)) h)
+get_or-sets_other l i [] k h = refl
+get_or-sets_other l i (v ∷ vs) k h =
+    get_or-sets_other (set l i v) (suc i) vs k (⊎_elim (λ b. inl (omega arith)) (λ b. inr (omega arith)) h)
     ∙ get_or-set_other l i k v 0 (⊎_elim (λ b. omega arith) (λ b. omega arith) h)
 
-pub get_d_sets_in : (l : List ℕ) (i : ℕ) (vs : List ℕ) (k : ℕ) → i + length vs ≤ length l → k < length vs
+pub get_or-sets_in : (l : List ℕ) (i : ℕ) (vs : List ℕ) (k : ℕ) → i + length vs ≤ length l → k < length vs
     → get_or (sets l i vs) (i + k) 0 ≡ get_or vs k 0
-get_d_sets_in l i [] k h b = absurd (omega arith)
-get_d_sets_in l i (v ∷ vs) zero h b =
-    get_d_sets_other (set l i v) (suc i) vs (i + 0) (inl (omega arith)) ∙ rw add-zero (get_or-set_same l i v 0 (omega arith))
-get_d_sets_in l i (v ∷ vs) (suc k) h b =
+get_or-sets_in l i [] k h b = absurd (omega arith)
+get_or-sets_in l i (v ∷ vs) zero h b =
+    get_or-sets_other (set l i v) (suc i) vs (i + 0) (inl (omega arith)) ∙ rw add-zero (get_or-set_same l i v 0 (omega arith))
+get_or-sets_in l i (v ∷ vs) (suc k) h b =
     let e : i + suc k ≡ suc i + k = omega arith in
-    rw e (get_d_sets_in (set l i v) (suc i) vs k (rw length-set (omega arith)) (omega arith))
+    rw e (get_or-sets_in (set l i v) (suc i) vs k (rw length-set (omega arith)) (omega arith))
 
 -- a number inside the stores
 pub le_at_in : (w : ℕ) (l : List ℕ) (i : ℕ) (vs : List ℕ) (k : ℕ) → i + length vs ≤ length l → k + w ≤ length vs
     → le_at w (sets l i vs) (i + k) ≡ le_at w vs k
 le_at_in w l i vs k h b =
     le_at_same w (sets l i vs) vs (i + k) k
-    (λ j m. let e : i + k + j ≡ i + (k + j) = omega arith in rw e (get_d_sets_in l i vs (k + j) h (omega arith)))
+    (λ j m. let e : i + k + j ≡ i + (k + j) = omega arith in rw e (get_or-sets_in l i vs (k + j) h (omega arith)))
 
 -- a number beside the stores is as it was
 pub le_at_beside : (w : ℕ) (l : List ℕ) (i : ℕ) (vs : List ℕ) (k : ℕ) → (k + w ≤ i) ⊎ (i + length vs ≤ k)
     → le_at w (sets l i vs) k ≡ le_at w l k
 le_at_beside w l i vs k h =
     le_at_same w (sets l i vs) l k k
-    (λ j m. get_d_sets_other l i vs (k + j) (⊎_elim (λ b. inl (omega arith)) (λ b. inr (omega arith)) h))
+    (λ j m. get_or-sets_other l i vs (k + j) (⊎_elim (λ b. inl (omega arith)) (λ b. inr (omega arith)) h))

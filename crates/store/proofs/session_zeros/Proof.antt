@@ -11,7 +11,7 @@ returns c =
       c.before.before.before.read16.ensures,
       c.before.before.read32.ensures,
       c.before.read64.ensures,
-      c.read642.ensures,
+      c.read64-2.ensures,
       le_at_zeros 2 4,
       le_at_zeros 8 8,
     )

@@ -10,9 +10,9 @@ returns c =
     rw (
       q.before.before.read16.ensures,
       q.read64.ensures,
-      c.before.before.read642.ensures,
-      c.before.read643.ensures,
-      c.read644.ensures,
+      c.before.before.read64-2.ensures,
+      c.before.read64-3.ensures,
+      c.read64-4.ensures,
     )
 
 pub slot_at_spec : {M : Type 1} → statement M
