@@ -20,7 +20,7 @@ pub const POLICY_SIZE: usize = device::ROW_SIZE * DOMAIN_COUNT;
 
 // What a domain says of the permissions: those that it offers, those that it has the user asked about, and those of
 // them that may be granted for a session, and for good.
-#[derive(Drop)]
+#[derive(Clone, Copy)]
 struct Row {
     offered: u64,
     asked: u64,

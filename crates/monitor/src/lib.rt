@@ -17,7 +17,7 @@ ghost use Rattle.monitor.specs.Turned.{Turned, RanThrough};
 pub const ANSWER_SIZE: usize = 2;
 
 // A run's answer, and the number of events that it answered.
-#[derive(Drop)]
+#[derive(Clone, Copy)]
 pub struct Counted {
     pub response: device::Response,
     pub count: usize,

@@ -12,7 +12,7 @@ ghost use Rattle.store.specs.Holds.{Holds, WellFormed};
 ghost use Rattle.steps.specs.Did.{Did, running_place, Knows, place_after, named};
 
 // An answer, and the place of the running suite's slot if it is known.
-#[derive(Drop)]
+#[derive(Clone, Copy)]
 pub struct Done {
     pub response: device::Response,
     pub at: usize,
