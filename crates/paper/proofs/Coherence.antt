@@ -1,7 +1,7 @@
 -- Document 004's Lemmas 2.3.1 and 2.3.2, of the paper's own relation. There Coherent is a part of Valid. Assumes nothing.
 use mathlib.Core.Path.{◌≡◌, refl, sym, ◌∙◌, subst, subst⁻¹}
 use mathlib.Core.Logic.{◌⊎◌, inl, inr, ⊎_elim}
-use mathlib.Core.Option.{Option, none, some, some_ne_none}
+use mathlib.Core.Option.{Option, none, some, some-ne-none}
 use Rattle.device.specs.declared.Suite.{Suite as SuiteId}
 use Rattle.device.specs.declared.Permission.{Permission}
 use Rattle.device.specs.declared.Domain.{Domain}
@@ -105,7 +105,7 @@ module _ (pol : Policy) where
     coherent_after s' r (start id) h (_, stay, (ses', is, _, clear)) =
         coherent_session stay (only (Fitting s) is (λ p. ⊎_elim (λ g. absurd ((clear p).0 g)) (λ y. absurd ((clear p).1 y))))
     coherent_after s' r terminate h (_, stay, over) =
-        coherent_session stay (λ ses e. absurd (some_ne_none ses (sym e ∙ over)))
+        coherent_session stay (λ ses e. absurd (some-ne-none ses (sym e ∙ over)))
     coherent_after s' r (install id des dom) h q = coherent_install s' r id des dom h q
     coherent_after s' r (remove id) h q = let (_, rest, _, from) = q.lower in
         subst (Coherent pol) (λ i. at s'.suite (rest.0 i) (rest.1 i) (rest.2 i)) (record {

@@ -1,7 +1,7 @@
 -- The paper's own theorems, of its own relation: Theorems 1 to 3 of document 000. They test the transcription. Assumes nothing.
 use mathlib.Core.Path.{◌≡◌, refl, sym, ◌∙◌, subst, subst⁻¹, transport, transport⁻¹}
 use mathlib.Core.Logic.{inl, inr, ◌≢◌}
-use mathlib.Core.Option.{Option, none, some, some_ne_none}
+use mathlib.Core.Option.{Option, none, some, some-ne-none}
 use mathlib.Core.List.{List, [], ◌∷◌, ◌++◌}
 use Prim.Native.Nat.{ℕ}
 use native.Mathlib.Omega.{arith}
@@ -95,7 +95,7 @@ module _ (pol : Policy) where
     valid_after s' r (start id) (_, (ms, i, n)) (_, stay, (ses', is, same, clear)) =
         valid_session stay (only (Sound s) is
         ((ms, i, n ∙ sym same), λ p g. absurd ((clear p).0 g), λ p g. absurd ((clear p).0 g)))
-    valid_after s' r terminate h (_, stay, over) = valid_session stay (λ ses e. absurd (some_ne_none ses (sym e ∙ over)))
+    valid_after s' r terminate h (_, stay, over) = valid_session stay (λ ses e. absurd (some-ne-none ses (sym e ∙ over)))
     valid_after s' r (install id des dom) h q = valid_install s' r id des dom h q
     valid_after s' r (remove id) (other, _) q = let (_, rest, stay, from) = q.lower in
         subst (Valid pol) (λ i. at s'.suite (rest.0 i) (rest.1 i) (rest.2 i)) (record {
@@ -203,7 +203,7 @@ module _ (pol : Policy) where
     unchanged u e = untouched e (λ ms i _. transport (λ j. u j ms) i)
 
     goes_on : (r : Option Response) (e : Event) → e ≢ terminate → Pre pol s e → Pos pol s s' r e → GoesOn s s' ses
-    goes_on r (start id) n h q = absurd (some_ne_none ses (sym is ∙ h.0))
+    goes_on r (start id) n h q = absurd (some-ne-none ses (sym is ∙ h.0))
     goes_on r terminate n h q = absurd (n refl)
     goes_on r (install id des dom) n h q = untouched (sym q.lower.4) (λ ms i _. q.lower.1 ms i)
     goes_on r (remove id) n h q =
@@ -252,7 +252,7 @@ module _ (pol : Policy) where
 
   refused : {p : Permission} {s s' : State} {r : Option Response} {o : Option UserAnswer} → Current s
       → Exec pol s (request p o) r s' → Revoked p s → r ≢ some allowed
-  refused c (npre n) k e = some_ne_none allowed (sym e)
+  refused c (npre n) k e = some-ne-none allowed (sym e)
   refused {p} {o = none} c (pre h q) (ses, is, y) e =
       let (ms, i, k) = c ses is in
       let a = q.1 ses ms is i k in

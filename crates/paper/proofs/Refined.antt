@@ -23,7 +23,7 @@ not_in_none p h = false≢true (sym (member_none p.0) ∙ (both (is_permission p
 -- ---- the session
 
 pub some_ne_none {ℓ} : {A : Type ℓ} {a : A} → ¬ (◌≡◌ {A = Option A} (some a) none)
-some_ne_none {a = a} = Option.some_ne_none a
+some_ne_none {a = a} = Option.some-ne-none a
 
 -- there is no other than its own
 pub the_session : (r : Session) (ses : SessionInfo) → session_of r ≡ some ses
