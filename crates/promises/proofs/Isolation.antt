@@ -300,7 +300,7 @@ step_isolated policy w b b' like [] es' h = tt
 step_isolated policy w b b' like (e ∷ es) [] h = tt
 step_isolated policy w b b' like (e ∷ es) (e' ∷ es') h =
     let here = one_call policy w b b' like e e' h.0 in
-    (here, step_isolated policy w _ _ here.alike es es' h.1)
+    (here, step_isolated policy w (step_call policy b e).bytes (step_call policy b' e').bytes here.alike es es' h.1)
 
 -- ---- a run
 
