@@ -1,8 +1,9 @@
 // The report of the files policy.bin and events.bin, of the folder that it is run in.
 #![tactic(auto)]
 
-use libc::STDOUT_FILENO;
+use std::io;
 
-fn main() {
-    reports::print(STDOUT_FILENO, b"policy.bin", b"events.bin");
+fn main(rt: HostRuntime) -> io::Result<()> {
+    reports::print(&rt, &mut io::writer(&rt), "policy.bin", "events.bin")?;
+    Ok(())
 }

@@ -1,7 +1,8 @@
 // The report at the edges of what its files may be; what is printed is held to the file stdout.
 #![tactic(auto)]
 
-use libc::STDOUT_FILENO;
+use std::io;
+use std::rt::Files;
 
 fn edge(label: &[u8], policy_path: &[u8], events_path: &[u8]) {
     io::write_all(STDOUT_FILENO, label);

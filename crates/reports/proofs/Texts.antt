@@ -112,8 +112,8 @@ of_files policy events before {after} {size} e p q =
     record {
       policy = policy;
       events = events;
-      policy_read_lem = p;
-      events_read_lem = q;
+      policy_within = p;
+      events_within = q;
       counts = (h, sym (length-take-le size after h));
       text = e;
     }

@@ -33,8 +33,8 @@ events_read = suc (event_size * most_events)
 pub record OfFiles (before after : List ℕ) (size : ℕ) : Type 0 where
   pub policy : List ℕ
   pub events : List ℕ
-  pub policy_read_lem : length policy ≤ policy_read
-  pub events_read_lem : length events ≤ events_read
+  pub policy_within : length policy ≤ policy_read
+  pub events_within : length events ≤ events_read
   pub counts : IsPrefixLen size after
   pub text : made size after ≡ text_call policy events before
 

@@ -1,13 +1,17 @@
 // The report of a run: the answer to each event, from a new state under a policy, as text; and printed, for two files.
 #![tactic(auto)]
 
-ghost use Rattle.std.specs.Prelude.{◌≡◌, ◌++◌, ◌*◌, ◌/◌, ◌≤◌, length, replicate};
+ghost use Rattle.std.specs.Prelude.{IfOk, ◌≡◌, ◌++◌, ◌*◌, ◌/◌, ◌≤◌, length, replicate};
 ghost use Rattle.io.specs.Counts.{IsPrefixLen};
 ghost use Rattle.model.specs.Events.{event_size};
 ghost use Rattle.model.specs.Calls.{answer_size};
 ghost use Rattle.reports.specs.Text.{decimal, line, lines, closing, text_of, report_text};
 ghost use Rattle.reports.specs.Text.{most_events, text_size, made, text_call};
 ghost use Rattle.reports.specs.Steps.{Room, Puts, room_for, OfFiles, Printed};
+
+use std::fs;
+use std::io::{Read, Write};
+use std::rt::Files;
 
 const MOST_EVENTS: usize = 2000;
 
@@ -20,7 +24,9 @@ fn put(lent: &mut [u8], at: usize, part: &[u8]) -> usize
     requires { Room part.now lent.old at }
     ensures { Puts part.now lent.old at lent.new result }
 {
-    at + bytes::copy(part, &mut lent[at..])
+    let end = at + part.len();
+    lent[at..end].copy_from_slice(part);
+    end
 }
 
 fn put_number(lent: &mut [u8], at: usize, number: u64, behind: &[u8]) -> usize
@@ -115,36 +121,53 @@ pub fn text(policy: &[u8], events: &[u8], lent: &mut [u8]) -> usize
 
 // ---- the files: what is read of them, and that the text is written, is all that no contract says
 
-// What the file has, as far as `bytes` has room, and how much that is: nothing where it does not open. 0 is a descriptor too.
-fn read_file(path: &[u8], bytes: &mut [u8]) -> usize
+// What the file has, as far as `bytes` has room, and how much that is: nothing where it does not open, and what came before a
+// read that fails.
+fn read_file<R: Files>(rt: &R, path: &str, bytes: &mut [u8]) -> usize
     ensures { IsPrefixLen result bytes.new }
 {
-    let fd = os::open_read(path);
-    if fd < 0 {
-        return 0;
+    match fs::open(rt, path) {
+        Ok(mut file) => read_full(&mut file, bytes),
+        Err(_) => 0,
     }
-    let size = io::read_full(fd, bytes);
-    libc::close(fd);
+}
+
+fn read_full<F: Read>(file: &mut F, bytes: &mut [u8]) -> usize
+    ensures { IsPrefixLen result bytes.new }
+{
+    let mut size: usize = 0;
+    while size < bytes.len() {
+        match file.read(&mut bytes[size..]) {
+            Ok(0) => break,
+            Ok(n) => size += n,
+            Err(_) => break,
+        }
+    }
     size
 }
 
 // A byte more than is taken is read of each file, and no more: a longer file has the same text as that part of it.
-fn text_of_files(policy_path: &[u8], events_path: &[u8], lent: &mut [u8]) -> usize
+fn text_of_files<R: Files>(rt: &R, policy_path: &str, events_path: &str, lent: &mut [u8]) -> usize
     ensures { OfFiles lent.old lent.new result }
 {
     let mut policy = [0u8; checks::POLICY_SIZE + 1];
-    let policy_size = read_file(policy_path, &mut policy);
+    let policy_size = read_file(rt, policy_path, &mut policy);
     let mut events = [0u8; events::EVENT_SIZE * MOST_EVENTS + 1];
-    let events_size = read_file(events_path, &mut events);
+    let events_size = read_file(rt, events_path, &mut events);
     text(&policy[..policy_size], &events[..events_size], lent)
 }
 
 // Prints the report on two files, of which one that does not open has length 0, and tells how long it is.
-pub fn print(out: i32, policy_path: &[u8], events_path: &[u8]) -> usize
-    ensures { Printed result }
+pub fn print<R: Files, W: Write>(
+    rt: &R,
+    out: &mut W,
+    policy_path: &str,
+    events_path: &str,
+) -> std::io::Result<usize>
+    ensures { IfOk result (λ size. Printed size) }
 {
     let mut lent = [0u8; TEXT_SIZE];
-    let size = text_of_files(policy_path, events_path, &mut lent);
-    io::write_all(out, &lent[..size]);
-    size
+    let size = text_of_files(rt, policy_path, events_path, &mut lent);
+    out.write_all(&lent[..size])?;
+    Ok(size)
 }
