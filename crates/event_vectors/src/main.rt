@@ -3,7 +3,7 @@
 
 ghost use Rattle.std.specs.Prelude.{◌<◌};
 
-use libc::STDOUT_FILENO;
+use std::io;
 
 // A record by the low bytes of its fields, the sets empty.
 fn made(kind: u8, domain: u8, suite: u8, permission: u8, answer: u8) -> [u8; 24] {
@@ -39,14 +39,12 @@ fn request() -> [u8; 24] {
     made(5, 0, 0, 3, 2)
 }
 
-fn print(n: u8) {
-    io::write_all(STDOUT_FILENO, b" ");
-    io::print_decimal(STDOUT_FILENO, n as u64);
+fn print(rt: &impl Print, n: u8) -> io::Result<()> {
+    print!(rt; " {n}")
 }
 
-fn line(label: &[u8]) {
-    io::write_all(STDOUT_FILENO, b"\n");
-    io::write_all(STDOUT_FILENO, label);
+fn line(rt: &impl Print, label: &str) -> io::Result<()> {
+    print!(rt; "\n{label}")
 }
 
 // 18 for bytes that are no event; 0 for a record that is read and written back the same, and 99 for one that is not.
@@ -54,7 +52,7 @@ fn through(bytes: &[u8]) -> u8 {
     let mut back = [7u8; 24];
     let written = events::write_event(events::read_event(bytes), &mut back);
     if written.number == 0 {
-        if check::same(bytes, &back) {
+        if bytes == back.as_slice() {
             return 0;
         }
         return 99;
@@ -63,108 +61,113 @@ fn through(bytes: &[u8]) -> u8 {
 }
 
 // A record with a byte stored at each of its 24 places in turn.
-fn damaged(label: &[u8], good: [u8; 24], byte: u8) {
-    line(label);
+fn damaged(rt: &impl Print, label: &str, good: [u8; 24], byte: u8) -> io::Result<()> {
+    line(rt, label)?;
     let mut k: usize = 0;
     while k < 24 {
         let mut bad = good;
         bad[k] = byte;
-        print(through(&bad));
+        print(rt, through(&bad))?;
         k += 1;
     }
+    Ok(())
 }
 
 // A record with two of its bytes at their edges.
-fn edge(good: [u8; 24], at: usize, low: u8, high: u8)
+fn edge(rt: &impl Print, good: [u8; 24], at: usize, low: u8, high: u8) -> io::Result<()>
     requires { at < 23 }
 {
     let mut r = good;
     r[at] = low;
     r[at + 1] = high;
-    print(through(&r));
+    print(rt, through(&r))?;
+    Ok(())
 }
 
 // The number of a write into 24 bytes, and of one into 23.
-fn written(event: device::Event) {
+fn written(rt: &impl Print, event: device::Event) -> io::Result<()> {
     let mut whole = [7u8; 24];
-    print(events::write_event(event, &mut whole).number);
+    print(rt, events::write_event(event, &mut whole).number)?;
     let mut short = [7u8; 23];
-    print(events::write_event(event, &mut short).number);
+    print(rt, events::write_event(event, &mut short).number)?;
+    Ok(())
 }
 
-fn damages() {
-    damaged(b"install with 255 in each place:", install(), 255);
-    damaged(b"install with 1 in each place:", install(), 1);
-    damaged(b"remove with 255 in each place:", remove(), 255);
-    damaged(b"remove with 1 in each place:", remove(), 1);
-    damaged(b"start with 255 in each place:", start(), 255);
-    damaged(b"start with 1 in each place:", start(), 1);
-    damaged(b"terminate with 255 in each place:", terminate(), 255);
-    damaged(b"terminate with 1 in each place:", terminate(), 1);
-    damaged(b"request with 255 in each place:", request(), 255);
-    damaged(b"request with 1 in each place:", request(), 1);
+fn damages(rt: &impl Print) -> io::Result<()> {
+    damaged(rt, "install with 255 in each place:", install(), 255)?;
+    damaged(rt, "install with 1 in each place:", install(), 1)?;
+    damaged(rt, "remove with 255 in each place:", remove(), 255)?;
+    damaged(rt, "remove with 1 in each place:", remove(), 1)?;
+    damaged(rt, "start with 255 in each place:", start(), 255)?;
+    damaged(rt, "start with 1 in each place:", start(), 1)?;
+    damaged(rt, "terminate with 255 in each place:", terminate(), 255)?;
+    damaged(rt, "terminate with 1 in each place:", terminate(), 1)?;
+    damaged(rt, "request with 255 in each place:", request(), 255)?;
+    damaged(rt, "request with 1 in each place:", request(), 1)?;
+    Ok(())
 }
 
-fn sizes() {
-    line(b"0, 23, 24 and 25 bytes:");
+fn sizes(rt: &impl Print) -> io::Result<()> {
+    line(rt, "0, 23, 24 and 25 bytes:")?;
     let mut whole = [0u8; 24];
     whole[0] = 4;
     let long = [4u8; 25];
-    print(through(&whole[..0]));
-    print(through(&whole[..23]));
-    print(through(&whole));
-    print(through(&long));
+    print(rt, through(&whole[..0]))?;
+    print(rt, through(&whole[..23]))?;
+    print(rt, through(&whole))?;
+    print(rt, through(&long))?;
+    Ok(())
 }
 
-fn reads() {
-    line(b"an install with kind and domain 0 2, 6 2, 1 0, 1 7, 1 8:");
-    edge(install(), 0, 0, 2);
-    edge(install(), 0, 6, 2);
-    edge(install(), 0, 1, 0);
-    edge(install(), 0, 1, 7);
-    edge(install(), 0, 1, 8);
-    line(b"a start of suite 0, 1, 256, 65535:");
-    edge(start(), 2, 0, 0);
-    edge(start(), 2, 1, 0);
-    edge(start(), 2, 0, 1);
-    edge(start(), 2, 255, 255);
-    line(b"a request with permission and answer 0 0, 63 6, 64 6, 63 7:");
-    edge(request(), 4, 0, 0);
-    edge(request(), 4, 63, 6);
-    edge(request(), 4, 64, 6);
-    edge(request(), 4, 63, 7);
+fn reads(rt: &impl Print) -> io::Result<()> {
+    line(rt, "an install with kind and domain 0 2, 6 2, 1 0, 1 7, 1 8:")?;
+    edge(rt, install(), 0, 0, 2)?;
+    edge(rt, install(), 0, 6, 2)?;
+    edge(rt, install(), 0, 1, 0)?;
+    edge(rt, install(), 0, 1, 7)?;
+    edge(rt, install(), 0, 1, 8)?;
+    line(rt, "a start of suite 0, 1, 256, 65535:")?;
+    edge(rt, start(), 2, 0, 0)?;
+    edge(rt, start(), 2, 1, 0)?;
+    edge(rt, start(), 2, 0, 1)?;
+    edge(rt, start(), 2, 255, 255)?;
+    line(rt, "a request with permission and answer 0 0, 63 6, 64 6, 63 7:")?;
+    edge(rt, request(), 4, 0, 0)?;
+    edge(rt, request(), 4, 63, 6)?;
+    edge(rt, request(), 4, 64, 6)?;
+    edge(rt, request(), 4, 63, 7)?;
+    Ok(())
 }
 
-fn writes() {
+fn writes(rt: &impl Print) -> io::Result<()> {
     let both = device::Descriptor {
         required: 18446744073709551615,
         optional: 1,
     };
     let no = device::UserAnswer::Deny(device::Mode::Blanket);
-    line(b"an install of suite 65535 in domain 7, 0 in 7, 1 in 8, into 24 and 23 bytes:");
-    written(device::Event::Install(device::Suite(65535), both, device::Domain(7)));
-    written(device::Event::Install(device::Suite(0), both, device::Domain(7)));
-    written(device::Event::Install(device::Suite(1), both, device::Domain(8)));
-    line(b"a remove of 65535, of 0, a start of 1, of 0, into 24 and 23 bytes:");
-    written(device::Event::Remove(device::Suite(65535)));
-    written(device::Event::Remove(device::Suite(0)));
-    written(device::Event::Start(device::Suite(1)));
-    written(device::Event::Start(device::Suite(0)));
-    line(b"a request of 63, of 64, a terminate, an unreadable event, into 24 and 23 bytes:");
-    written(device::Event::Request(device::Permission(63), no));
-    written(device::Event::Request(device::Permission(64), no));
-    written(device::Event::Terminate);
-    written(device::Event::Unreadable);
+    line(rt, "an install of suite 65535 in domain 7, 0 in 7, 1 in 8, into 24 and 23 bytes:")?;
+    written(rt, device::Event::Install(device::Suite(65535), both, device::Domain(7)))?;
+    written(rt, device::Event::Install(device::Suite(0), both, device::Domain(7)))?;
+    written(rt, device::Event::Install(device::Suite(1), both, device::Domain(8)))?;
+    line(rt, "a remove of 65535, of 0, a start of 1, of 0, into 24 and 23 bytes:")?;
+    written(rt, device::Event::Remove(device::Suite(65535)))?;
+    written(rt, device::Event::Remove(device::Suite(0)))?;
+    written(rt, device::Event::Start(device::Suite(1)))?;
+    written(rt, device::Event::Start(device::Suite(0)))?;
+    line(rt, "a request of 63, of 64, a terminate, an unreadable event, into 24 and 23 bytes:")?;
+    written(rt, device::Event::Request(device::Permission(63), no))?;
+    written(rt, device::Event::Request(device::Permission(64), no))?;
+    written(rt, device::Event::Terminate)?;
+    written(rt, device::Event::Unreadable)?;
+    Ok(())
 }
 
-fn main() {
-    io::write_all(
-        STDOUT_FILENO,
-        b"Event records: 0 read and written back, or written; else the refusal",
-    );
-    damages();
-    sizes();
-    reads();
-    writes();
-    io::write_all(STDOUT_FILENO, b"\n");
+fn main(rt: HostRuntime) -> io::Result<()> {
+    let rt = &rt;
+    print!(rt; "Event records: 0 read and written back, or written; else the refusal")?;
+    damages(rt)?;
+    sizes(rt)?;
+    reads(rt)?;
+    writes(rt)?;
+    println!(rt; "")
 }

@@ -4,24 +4,30 @@
 use std::io;
 use std::rt::Files;
 
-fn edge(label: &[u8], policy_path: &[u8], events_path: &[u8]) {
-    io::write_all(STDOUT_FILENO, label);
-    io::write_all(STDOUT_FILENO, b"\n");
-    reports::print(STDOUT_FILENO, policy_path, events_path);
+fn edge<R: Files + Print>(
+    rt: &R,
+    label: &str,
+    policy_path: &str,
+    events_path: &str,
+) -> io::Result<()> {
+    println!(rt; "{label}")?;
+    reports::print(rt, &mut io::writer(rt), policy_path, events_path)?;
+    Ok(())
 }
 
-fn main() {
-    edge(b"no policy file:", b"absent.bin", b"most.bin");
-    edge(b"a policy of 511 bytes:", b"short.bin", b"most.bin");
-    edge(b"a policy of 513 bytes:", b"long.bin", b"most.bin");
-    edge(b"a policy with a cell of 5:", b"five.bin", b"most.bin");
-    edge(b"no events file:", b"good.bin", b"absent.bin");
-    edge(b"events of 25 bytes:", b"good.bin", b"broken.bin");
-    edge(b"2,001 events:", b"good.bin", b"excess.bin");
-    edge(
-        b"2,001 events and a bad policy:",
-        b"five.bin",
-        b"excess.bin",
-    );
-    edge(b"2,000 events:", b"good.bin", b"most.bin");
+fn main(rt: HostRuntime) -> io::Result<()> {
+    edge(&rt, "no policy file:", "absent.bin", "most.bin")?;
+    edge(&rt, "a policy of 511 bytes:", "short.bin", "most.bin")?;
+    edge(&rt, "a policy of 513 bytes:", "long.bin", "most.bin")?;
+    edge(&rt, "a policy with a cell of 5:", "five.bin", "most.bin")?;
+    edge(&rt, "no events file:", "good.bin", "absent.bin")?;
+    edge(&rt, "events of 25 bytes:", "good.bin", "broken.bin")?;
+    edge(&rt, "2,001 events:", "good.bin", "excess.bin")?;
+    edge(&rt, 
+        "2,001 events and a bad policy:",
+        "five.bin",
+        "excess.bin",
+    )?;
+    edge(&rt, "2,000 events:", "good.bin", "most.bin")?;
+    Ok(())
 }

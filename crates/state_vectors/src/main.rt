@@ -4,7 +4,7 @@
 
 ghost use Rattle.std.specs.Prelude.{◌≤◌};
 
-use libc::STDOUT_FILENO;
+use std::io;
 
 // Every cell is met in every domain.
 fn policy() -> [u8; 512] {
@@ -53,55 +53,56 @@ fn good() -> [u8; 1320] {
     b
 }
 
-fn print(n: u8) {
-    io::write_all(STDOUT_FILENO, b" ");
-    io::print_decimal(STDOUT_FILENO, n as u64);
+fn print(rt: &impl Print, n: u8) -> io::Result<()> {
+    print!(rt; " {n}")
 }
 
-fn line(label: &[u8]) {
-    io::write_all(STDOUT_FILENO, b"\n");
-    io::write_all(STDOUT_FILENO, label);
+fn line(rt: &impl Print, label: &str) -> io::Result<()> {
+    print!(rt; "\n{label}")
 }
 
-fn checked(policy: &[u8], state: &[u8]) {
+fn checked(rt: &impl Print, policy: &[u8], state: &[u8]) -> io::Result<()> {
     let r = checks::check(policy, state);
-    print(r.number);
+    print(rt, r.number)?;
+    Ok(())
 }
 
 // Each byte in turn with the bits of x turned over, a line for each record.
-fn damaged(x: u8) {
+fn damaged(rt: &impl Print, x: u8) -> io::Result<()> {
     let policy = policy();
     let good = good();
     let mut k: usize = 0;
     while k < 1320 {
         if k % 40 == 0 {
-            line(b"record");
-            print((k / 40) as u8);
-            io::write_all(STDOUT_FILENO, b":");
+            line(rt, "record")?;
+            print(rt, (k / 40) as u8)?;
+            print!(rt; ":")?;
         }
         let mut bad = good;
         bad[k] = good[k] ^ x;
-        checked(&policy, &bad);
+        checked(rt, &policy, &bad)?;
         k += 1;
     }
+    Ok(())
 }
 
-fn sizes() {
+fn sizes(rt: &impl Print) -> io::Result<()> {
     let cells = [1u8; 513];
     let zeros = [0u8; 1321];
-    line(b"a state of 0, 1319, 1320 and 1321 bytes:");
-    checked(&cells[..512], &zeros[..0]);
-    checked(&cells[..512], &zeros[..1319]);
-    checked(&cells[..512], &zeros[..1320]);
-    checked(&cells[..512], &zeros);
-    line(b"a policy of 0, 511 and 513 bytes, and of 513 with a bad state:");
-    checked(&cells[..0], &zeros[..1320]);
-    checked(&cells[..511], &zeros[..1320]);
-    checked(&cells, &zeros[..1320]);
-    checked(&cells, &zeros);
+    line(rt, "a state of 0, 1319, 1320 and 1321 bytes:")?;
+    checked(rt, &cells[..512], &zeros[..0])?;
+    checked(rt, &cells[..512], &zeros[..1319])?;
+    checked(rt, &cells[..512], &zeros[..1320])?;
+    checked(rt, &cells[..512], &zeros)?;
+    line(rt, "a policy of 0, 511 and 513 bytes, and of 513 with a bad state:")?;
+    checked(rt, &cells[..0], &zeros[..1320])?;
+    checked(rt, &cells[..511], &zeros[..1320])?;
+    checked(rt, &cells, &zeros[..1320])?;
+    checked(rt, &cells, &zeros)?;
+    Ok(())
 }
 
-fn cells() {
+fn cells(rt: &impl Print) -> io::Result<()> {
     let state = good();
     let mut first = policy();
     first[0] = 5;
@@ -109,51 +110,56 @@ fn cells() {
     last[511] = 5;
     let mut odd = policy();
     odd[511] = 4;
-    line(b"a cell of 5 first, last, and one of 4 last:");
-    checked(&first, &state);
-    checked(&last, &state);
-    checked(&odd, &state);
+    line(rt, "a cell of 5 first, last, and one of 4 last:")?;
+    checked(rt, &first, &state)?;
+    checked(rt, &last, &state)?;
+    checked(rt, &odd, &state)?;
+    Ok(())
 }
 
 // The number of `find`, and the bytes of the part.
-fn found(suite: u16) {
+fn found(rt: &impl Print, suite: u16) -> io::Result<()> {
     let policy = policy();
     let state = good();
     let r = checks::find(&policy, &state, device::Suite(suite));
-    line(b"find:");
-    print(r.number);
-    io::write_all(STDOUT_FILENO, b", the part:");
-    bytes(checks::suite_record(&policy, &state, device::Suite(suite)));
+    line(rt, "find:")?;
+    print(rt, r.number)?;
+    print!(rt; ", the part:")?;
+    bytes(rt, checks::suite_record(&policy, &state, device::Suite(suite)))?;
+    Ok(())
 }
 
-fn bytes(part: &[u8]) {
+fn bytes(rt: &impl Print, part: &[u8]) -> io::Result<()> {
     let mut k: usize = 0;
     while k < part.len() {
-        print(part[k]);
+        print(rt, part[k])?;
         k += 1;
     }
+    Ok(())
 }
 
-fn finds() {
-    line(b"suites 10, 258, 65535, 0, 1 and 255:");
-    found(10);
-    found(258);
-    found(65535);
-    found(0);
-    found(1);
-    found(255);
+fn finds(rt: &impl Print) -> io::Result<()> {
+    line(rt, "suites 10, 258, 65535, 0, 1 and 255:")?;
+    found(rt, 10)?;
+    found(rt, 258)?;
+    found(rt, 65535)?;
+    found(rt, 0)?;
+    found(rt, 1)?;
+    found(rt, 255)?;
+    Ok(())
 }
 
-fn main() {
-    io::write_all(STDOUT_FILENO, b"Stored states: what check answers");
-    line(b"bit 1 of each byte turned over:");
-    damaged(1);
-    line(b"bit 16 of each byte turned over:");
-    damaged(16);
-    line(b"every bit of each byte turned over:");
-    damaged(255);
-    sizes();
-    cells();
-    finds();
-    io::write_all(STDOUT_FILENO, b"\n");
+fn main(rt: HostRuntime) -> io::Result<()> {
+    let rt = &rt;
+    print!(rt; "Stored states: what check answers")?;
+    line(rt, "bit 1 of each byte turned over:")?;
+    damaged(rt, 1)?;
+    line(rt, "bit 16 of each byte turned over:")?;
+    damaged(rt, 16)?;
+    line(rt, "every bit of each byte turned over:")?;
+    damaged(rt, 255)?;
+    sizes(rt)?;
+    cells(rt)?;
+    finds(rt)?;
+    println!(rt; "")
 }
