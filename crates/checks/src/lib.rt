@@ -274,7 +274,8 @@ fn check_state(policy: &[u8], state: &[u8]) -> bool
     requires { policy_valid policy.now ≡ true }
     ensures { result ≡ state_valid (fixed_by policy.now) state.now }
 {
-    if state.len() != store::STATE_SIZE {
+    let whole = state.len() == store::STATE_SIZE;
+    if !whole {
         return false;
     }
     let rows = rows_of(policy);
@@ -301,7 +302,8 @@ fn wipe(bytes: &mut [u8])
 pub fn new_state(state: &mut [u8]) -> device::Response
     ensures { leaving state.new result ≡ new_call state.old }
 {
-    if state.len() == store::STATE_SIZE {
+    let sized = state.len() == store::STATE_SIZE;
+    if sized {
         wipe(state);
         return device::Response::done();
     }

@@ -149,7 +149,8 @@ fn where_good(good: bool, e: device::Event) -> device::Event
 pub fn read_event(bytes: &[u8]) -> device::Event
     ensures { reading result ≡ read_call bytes.now }
 {
-    if bytes.len() != EVENT_SIZE {
+    let sized = bytes.len() == EVENT_SIZE;
+    if !sized {
         return device::Event::Unreadable;
     }
     let f = fields_at(bytes);
@@ -163,7 +164,8 @@ pub fn write_event(event: device::Event, bytes: &mut [u8]) -> device::Response
 {
     let good = fits(event);
     if good {
-        if bytes.len() == EVENT_SIZE {
+        let room = bytes.len() == EVENT_SIZE;
+        if room {
             put_fields(bytes, fields_of(event));
             return device::Response::done();
         }
