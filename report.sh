@@ -11,7 +11,7 @@ for tool in rt od awk; do
 done
 cd "$home"
 echo 'report.sh: building; some two minutes where nothing is built yet' >&2
-built=$(rt check report 2>&1) || fail "the report is not built:"$'\n'"$(tail -n 3 <<<"$built")"
+built=$(rt run report 2>&1) || fail "the report is not built:"$'\n'"$(tail -n 3 <<<"$built")"
 
 words() {
     od -An -v -tu1 -w24 events.bin 2>/dev/null | awk '
@@ -35,4 +35,4 @@ words() {
 
 cd "$folder"
 awk 'FILENAME == ARGV[1] { said[FNR - 1] = $0; next } { print ($1 in said && NF == 3 ? sprintf("%-10s %s", $0, said[$1]) : $0) }' \
-    <(words) <("$home/target/bin/report")
+    <(words) <("$home/crates/report/out/report")

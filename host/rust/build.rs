@@ -5,7 +5,7 @@ use std::path::{Path, PathBuf};
 
 const LIBRARY: &str = "libexport.a";
 const VARIABLE: &str = "TREADLEMINT_LIB";
-const DEFAULT_FOLDER: &str = "../../target/staticlib";
+const DEFAULT_FOLDER: &str = "../../crates/export/out";
 
 fn main() {
     let folder = folder();

@@ -4,6 +4,6 @@
 use std::io;
 
 fn main(rt: HostRuntime) -> io::Result<()> {
-    reports::print(&rt, &mut io::writer(&rt), "policy.bin", "events.bin")?;
+    reports::print(&rt, &mut io::writer(&rt), b"policy.bin", b"events.bin")?;
     Ok(())
 }

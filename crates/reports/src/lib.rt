@@ -121,14 +121,19 @@ pub fn text(policy: &[u8], events: &[u8], lent: &mut [u8]) -> usize
 
 // ---- the files: what is read of them, and that the text is written, is all that no contract says
 
+// A path that is no text opens no file, as one that is not there.
+fn open<R: Files>(rt: &R, path: &[u8]) -> Option<R::File> {
+    fs::open(rt, str::from_utf8(path).ok()?).ok()
+}
+
 // What the file has, as far as `bytes` has room, and how much that is: nothing where it does not open, and what came before a
 // read that fails.
-fn read_file<R: Files>(rt: &R, path: &str, bytes: &mut [u8]) -> usize
+fn read_file<R: Files>(rt: &R, path: &[u8], bytes: &mut [u8]) -> usize
     ensures { IsPrefixLen result bytes.new }
 {
-    match fs::open(rt, path) {
-        Ok(mut file) => read_full(&mut file, bytes),
-        Err(_) => 0,
+    match open(rt, path) {
+        Some(mut file) => read_full(&mut file, bytes),
+        None => 0,
     }
 }
 
@@ -147,7 +152,7 @@ fn read_full<F: Read>(file: &mut F, bytes: &mut [u8]) -> usize
 }
 
 // A byte more than is taken is read of each file, and no more: a longer file has the same text as that part of it.
-fn text_of_files<R: Files>(rt: &R, policy_path: &str, events_path: &str, lent: &mut [u8]) -> usize
+fn text_of_files<R: Files>(rt: &R, policy_path: &[u8], events_path: &[u8], lent: &mut [u8]) -> usize
     ensures { OfFiles lent.old lent.new result }
 {
     let mut policy = [0u8; checks::POLICY_SIZE + 1];
@@ -161,8 +166,8 @@ fn text_of_files<R: Files>(rt: &R, policy_path: &str, events_path: &str, lent: &
 pub fn print<R: Files, W: Write>(
     rt: &R,
     out: &mut W,
-    policy_path: &str,
-    events_path: &str,
+    policy_path: &[u8],
+    events_path: &[u8],
 ) -> std::io::Result<usize>
     ensures { IfOk result (λ size. Printed size) }
 {

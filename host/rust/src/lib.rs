@@ -8,7 +8,7 @@
 //! nothing.
 //!
 //! The build looks for `libexport.a` in the folder that the environment
-//! variable `TREADLEMINT_LIB` names, and otherwise in `../../target/staticlib`
+//! variable `TREADLEMINT_LIB` names, and otherwise in `../../crates/export/out`
 //! beside this package.
 //!
 //! ```
