@@ -4,11 +4,9 @@ use Prim.Native.Nat.{ℕ}
 use mathlib.Core.Path.{◌≡◌, refl}
 use mathlib.Core.Bool.{true, false}
 use mathlib.Core.List.{List, [], ◌∷◌, ◌++◌, map}
-use lib.ListN.{length, set}
+use lib.ListN.{set}
 use lib.Dec.{leb}
-use Rattle.words.specs.Numbers.{le_at}
 use Rattle.model.specs.Policy.{fixed_by}
-use Rattle.model.specs.State.{State, slot_at}
 use Rattle.model.proofs.Worked.{policy, zeros, computed}
 use Rattle.checks.specs.Rows.{set_from, low_bits, those, admitting, row_of, rows_from}
 use Rattle.checks.specs.Walk.{lower_of, slot_record_valid, slot_records_valid}

@@ -1,16 +1,15 @@
 -- Each clause of the definitions on a concrete input; every claim holds by computation. Assumes nothing.
-use Prim.Native.Nat.{ℕ, ◌-◌, ◌^◌}
+use Prim.Native.Nat.{◌-◌, ◌^◌}
 use mathlib.Core.Path.{◌≡◌, refl}
 use mathlib.Core.Bool.{true, false}
-use mathlib.Core.List.{List, [], ◌∷◌, map}
+use mathlib.Core.List.{[], ◌∷◌, map}
 use lib.ListN.{replicate}
-use lib.Dec.{eqb, ltb}
+use lib.Dec.{ltb}
 use Rattle.words.specs.Sets.{bit, member}
 use Rattle.words.specs.Search.{first_from, all_from}
 use Rattle.device.specs.declared.Mode.TheVariants.{Oneshot, Session, Blanket}
 use Rattle.device.specs.declared.Consent.TheVariants.{Unasked, UpTo}
 use Rattle.device.specs.declared.UserAnswer.TheVariants.{None, Allow, Deny}
-use Rattle.device.specs.declared.Response.{Response}
 use Rattle.device.specs.Device.{is_permission, is_domain, is_suite, no_suite, same_suite, slot_count, width, mode_of, is_set, has}
 use Rattle.device.specs.Device.{every, lowest}
 use Rattle.device.specs.Cells.{offered, unconditional, highest, admits}

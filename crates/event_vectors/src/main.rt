@@ -120,7 +120,10 @@ fn sizes(rt: &impl Print) -> io::Result<()> {
 }
 
 fn reads(rt: &impl Print) -> io::Result<()> {
-    line(rt, "an install with kind and domain 0 2, 6 2, 1 0, 1 7, 1 8:")?;
+    line(
+        rt,
+        "an install with kind and domain 0 2, 6 2, 1 0, 1 7, 1 8:",
+    )?;
     edge(rt, install(), 0, 0, 2)?;
     edge(rt, install(), 0, 6, 2)?;
     edge(rt, install(), 0, 1, 0)?;
@@ -131,7 +134,10 @@ fn reads(rt: &impl Print) -> io::Result<()> {
     edge(rt, start(), 2, 1, 0)?;
     edge(rt, start(), 2, 0, 1)?;
     edge(rt, start(), 2, 255, 255)?;
-    line(rt, "a request with permission and answer 0 0, 63 6, 64 6, 63 7:")?;
+    line(
+        rt,
+        "a request with permission and answer 0 0, 63 6, 64 6, 63 7:",
+    )?;
     edge(rt, request(), 4, 0, 0)?;
     edge(rt, request(), 4, 63, 6)?;
     edge(rt, request(), 4, 64, 6)?;
@@ -145,16 +151,34 @@ fn writes(rt: &impl Print) -> io::Result<()> {
         optional: 1,
     };
     let no = device::UserAnswer::Deny(device::Mode::Blanket);
-    line(rt, "an install of suite 65535 in domain 7, 0 in 7, 1 in 8, into 24 and 23 bytes:")?;
-    written(rt, device::Event::Install(device::Suite(65535), both, device::Domain(7)))?;
-    written(rt, device::Event::Install(device::Suite(0), both, device::Domain(7)))?;
-    written(rt, device::Event::Install(device::Suite(1), both, device::Domain(8)))?;
-    line(rt, "a remove of 65535, of 0, a start of 1, of 0, into 24 and 23 bytes:")?;
+    line(
+        rt,
+        "an install of suite 65535 in domain 7, 0 in 7, 1 in 8, into 24 and 23 bytes:",
+    )?;
+    written(
+        rt,
+        device::Event::Install(device::Suite(65535), both, device::Domain(7)),
+    )?;
+    written(
+        rt,
+        device::Event::Install(device::Suite(0), both, device::Domain(7)),
+    )?;
+    written(
+        rt,
+        device::Event::Install(device::Suite(1), both, device::Domain(8)),
+    )?;
+    line(
+        rt,
+        "a remove of 65535, of 0, a start of 1, of 0, into 24 and 23 bytes:",
+    )?;
     written(rt, device::Event::Remove(device::Suite(65535)))?;
     written(rt, device::Event::Remove(device::Suite(0)))?;
     written(rt, device::Event::Start(device::Suite(1)))?;
     written(rt, device::Event::Start(device::Suite(0)))?;
-    line(rt, "a request of 63, of 64, a terminate, an unreadable event, into 24 and 23 bytes:")?;
+    line(
+        rt,
+        "a request of 63, of 64, a terminate, an unreadable event, into 24 and 23 bytes:",
+    )?;
     written(rt, device::Event::Request(device::Permission(63), no))?;
     written(rt, device::Event::Request(device::Permission(64), no))?;
     written(rt, device::Event::Terminate)?;

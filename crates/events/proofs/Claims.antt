@@ -1,7 +1,7 @@
 -- The comparison of two records' numbers, field by field; the claim holds by computation. Assumes nothing.
 use mathlib.Core.Path.{◌≡◌, refl}
 use mathlib.Core.Bool.{true, false}
-use mathlib.Core.List.{List, [], ◌∷◌, map}
+use mathlib.Core.List.{[], ◌∷◌, map}
 use lib.ListN.{replicate}
 use Rattle.device.specs.declared.Fields.{Fields}
 use Rattle.model.specs.Events.{numbers}

@@ -1,7 +1,7 @@
 -- What the contracts of the C calls leave, as a caller of the header sees it: one outcome for each input, every lent byte as it was
 -- where the number returned is a refusal, a count of 0 where a run is refused; and the number returned, unpacked, is the answer.
 -- The bytes of a lent slice are below 256, as the toolchain has it. Assumes nothing.
-use Prim.Native.Nat.{ℕ, suc, ◌*◌, ◌^◌, ◌<◌}
+use Prim.Native.Nat.{ℕ, ◌^◌, ◌<◌}
 use native.Mathlib.Omega.{arith}
 use mathlib.Core.Path.{◌≡◌, refl, sym, ap, ◌∙◌}
 use mathlib.Core.Bool.{Bool, true, false}
@@ -10,11 +10,9 @@ use lib.ListN.{get_or}
 use lib.Dec.{leb}
 use Rattle.device.specs.declared.Suite.{Suite}
 use Rattle.device.specs.declared.Event.{Event}
-use Rattle.device.specs.declared.Response.{Response}
 use Rattle.device.specs.Answers.{refused}
-use Rattle.model.specs.State.{place, read_state}
-use Rattle.model.specs.Calls.{Called, leaving, Ran, counted, new_call, read_call, write_call, check_call, step_call, run_call}
-use Rattle.model.specs.Calls.{find_call, Part, part_call}
+use Rattle.model.specs.Calls.{Called, leaving, counted, new_call, read_call, write_call, check_call, step_call, run_call}
+use Rattle.model.specs.Calls.{find_call, part_call}
 use Rattle.model.proofs.Numbers.{new_number, read_number, write_number, check_number, step_number, run_number, find_number}
 use Rattle.events.proofs.Outcomes.{write_refused}
 use Rattle.checks.proofs.Outcomes.{new_refused}

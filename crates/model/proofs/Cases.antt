@@ -2,14 +2,12 @@
 -- computation. Assumes nothing.
 use Prim.Native.Nat.{ℕ, zero, suc, ◌^◌}
 use mathlib.Core.Path.{◌≡◌, refl}
-use mathlib.Core.Bool.{true, false}
 use mathlib.Core.List.{List, [], ◌∷◌, ◌++◌, map}
 use lib.ListN.{get_or, take, drop, set, replicate}
 use Rattle.device.specs.declared.Event.{Event}
 use Rattle.device.specs.declared.Event.TheVariants.{Unreadable, Terminate}
 use Rattle.device.specs.declared.Mode.TheVariants.{Oneshot as oneshot, Session as session, Blanket as blanket}
 use Rattle.device.specs.declared.UserAnswer.TheVariants.{None, Allow, Deny}
-use Rattle.device.specs.Cells.{admits}
 use Rattle.model.specs.Policy.{fixed_by}
 use Rattle.model.specs.State.{State}
 use Rattle.device.specs.Empty.{free}

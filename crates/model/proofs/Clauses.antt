@@ -1,18 +1,16 @@
 -- The clauses of the decision, of what is entered, of each event's next state and of the event records, each on a concrete input.
 -- Each claim holds by computation. Assumes nothing.
-use Prim.Native.Nat.{ℕ, ◌^◌}
+use Prim.Native.Nat.{ℕ}
 use mathlib.Core.Path.{◌≡◌, refl}
-use mathlib.Core.Bool.{true, false}
+use mathlib.Core.Bool.{true}
 use mathlib.Core.List.{List, [], ◌∷◌, ◌++◌, map}
 use lib.ListN.{get_or, replicate}
 use Rattle.device.specs.declared.Event.{Event}
-use Rattle.device.specs.declared.Event.TheVariants.{Unreadable, Install, Terminate}
+use Rattle.device.specs.declared.Event.TheVariants.{Unreadable, Terminate}
 use Rattle.device.specs.declared.Mode.TheVariants.{Oneshot, Session as ForSession, Blanket}
-use Rattle.device.specs.declared.UserAnswer.{UserAnswer}
 use Rattle.device.specs.declared.UserAnswer.TheVariants.{None, Allow, Deny}
 use Rattle.device.specs.declared.Standing.TheVariants.{Nothing, Granted, Revoked}
 use Rattle.device.specs.declared.Decisions.{Decisions}
-use Rattle.device.specs.declared.Slot.{Slot}
 use Rattle.device.specs.Empty.{free, idle}
 use Rattle.device.specs.Answers.{plain, ALLOWED, DENIED, ASK}
 use Rattle.model.specs.Policy.{fixed_by}

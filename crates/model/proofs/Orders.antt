@@ -2,11 +2,10 @@
 -- Each claim holds by computation. Assumes nothing.
 use Prim.Native.Nat.{ℕ}
 use mathlib.Core.Path.{◌≡◌, refl}
-use mathlib.Core.Bool.{Bool, true, false}
-use mathlib.Core.List.{List, [], ◌∷◌, ◌++◌, map}
+use mathlib.Core.Bool.{true, false}
+use mathlib.Core.List.{List, [], ◌∷◌, map}
 use lib.ListN.{replicate}
 use Rattle.device.specs.declared.Event.{Event}
-use Rattle.device.specs.declared.Event.TheVariants.{Terminate}
 use Rattle.device.specs.declared.Mode.TheVariants.{Oneshot, Session as ForSession, Blanket}
 use Rattle.device.specs.declared.UserAnswer.TheVariants.{None, Allow, Deny}
 use Rattle.device.specs.declared.Standing.TheVariants.{Nothing, Granted, Revoked}
@@ -16,7 +15,7 @@ use Rattle.model.specs.Policy.{fixed_by}
 use Rattle.model.specs.State.{State, new}
 use Rattle.model.specs.Decision.{decision}
 use Rattle.model.specs.Step.{step}
-use Rattle.model.specs.Calls.{write_call, check_call, step_call, run_call, find_call}
+use Rattle.model.specs.Calls.{write_call, step_call, run_call, find_call}
 use Rattle.model.proofs.Worked.{policy, zeros, install, remove, start, ask, left, computed}
 use Rattle.model.proofs.Cases.{installs}
 use Rattle.model.proofs.Edges.{runs, state}

@@ -14,7 +14,6 @@ use Rattle.device.specs.declared.Descriptor.{Descriptor}
 use Rattle.device.specs.declared.Decisions.{Decisions}
 use Rattle.device.specs.declared.Slot.{Slot}
 use Rattle.device.specs.declared.Session.{Session}
-use Rattle.device.specs.declared.Event.{Event}
 use Rattle.device.specs.declared.Event.TheVariants.{Install, Remove, Start, Terminate}
 use Rattle.device.specs.Device.{is_permission, no_suite, same_suite, has, lowest}
 use Rattle.model.specs.Policy.{Fixed}

@@ -12,7 +12,7 @@ use Rattle.words.specs.Numbers.{bytes_of}
 use Rattle.model.specs.Policy.{fixed_by, policy_valid}
 use Rattle.model.specs.State.{State, write_state}
 use Rattle.model.specs.Valid.{valid}
-use Rattle.model.specs.Events.{fields_at, field_bytes, read_event}
+use Rattle.model.specs.Events.{field_bytes, read_event}
 use Rattle.device.specs.Answers.{DONE, BAD_LENGTH, ALLOWED}
 use Rattle.model.specs.Step.{step}
 use Rattle.model.specs.Calls.{leaving, step_call, records_from, counted}

@@ -2,16 +2,14 @@
 -- outcomes that fit a contract are equal. The bytes of a lent slice are below 256, as the toolchain has it. Assumes nothing.
 use mathlib.Core.Path.{◌≡◌, refl, ap, sym, ◌∙◌}
 use mathlib.Core.Bool.{true, not, false≢true}
-use mathlib.Core.List.{List, []}
-use Prim.Native.Nat.{ℕ, ◌+◌, ◌<◌}
+use mathlib.Core.List.{List}
+use Prim.Native.Nat.{ℕ, ◌<◌}
 use lib.ListN.{get_or}
 use Rattle.device.specs.declared.Response.{Response}
 use Rattle.model.specs.Policy.{fixed_by}
 use Rattle.model.specs.State.{read_state, write_state}
 use Rattle.model.specs.Events.{read_event}
 use Rattle.device.specs.Answers.{refused}
-use Rattle.model.specs.Step.{step}
-use Rattle.model.specs.Run.{after}
 use Rattle.model.specs.Calls.{Called, Ran, leaving, check_call, step_call, sizes_fit, run_call, counted}
 use Rattle.model.proofs.Tests.{cases}
 use Rattle.model.proofs.Runs.{refused_leaves}

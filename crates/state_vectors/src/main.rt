@@ -94,7 +94,10 @@ fn sizes(rt: &impl Print) -> io::Result<()> {
     checked(rt, &cells[..512], &zeros[..1319])?;
     checked(rt, &cells[..512], &zeros[..1320])?;
     checked(rt, &cells[..512], &zeros)?;
-    line(rt, "a policy of 0, 511 and 513 bytes, and of 513 with a bad state:")?;
+    line(
+        rt,
+        "a policy of 0, 511 and 513 bytes, and of 513 with a bad state:",
+    )?;
     checked(rt, &cells[..0], &zeros[..1320])?;
     checked(rt, &cells[..511], &zeros[..1320])?;
     checked(rt, &cells, &zeros[..1320])?;
@@ -125,7 +128,10 @@ fn found(rt: &impl Print, suite: u16) -> io::Result<()> {
     line(rt, "find:")?;
     print(rt, r.number)?;
     print!(rt; ", the part:")?;
-    bytes(rt, checks::suite_record(&policy, &state, device::Suite(suite)))?;
+    bytes(
+        rt,
+        checks::suite_record(&policy, &state, device::Suite(suite)),
+    )?;
     Ok(())
 }
 

@@ -1,8 +1,7 @@
 -- Which place an event hands on, and what a request may name; each claim holds by computation. Assumes nothing.
-use Prim.Native.Nat.{ℕ}
 use mathlib.Core.Path.{◌≡◌, refl}
 use mathlib.Core.Bool.{true, false}
-use mathlib.Core.List.{List, [], ◌∷◌, map}
+use mathlib.Core.List.{[], ◌∷◌, map}
 use Rattle.device.specs.declared.Event.TheVariants.{Unreadable, Terminate}
 use Rattle.device.specs.declared.UserAnswer.TheVariants.{None}
 use Rattle.model.specs.State.{State}

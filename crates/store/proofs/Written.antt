@@ -19,7 +19,7 @@ use Rattle.device.specs.Device.{is_suite, is_domain, is_set, no_suite, same_suit
 use Rattle.model.specs.Policy.{Fixed}
 use Rattle.model.specs.State.{State, carries, find, state_size, session_at, session_zeros, session_bytes, slot_at, slot_zeros, slot_bytes}
 use Rattle.model.specs.State.{slots_from, slots_bytes, read_state, write_state}
-use Rattle.model.specs.Valid.{clear, blank, installable, slot_sound, slot_decided, slot_valid, slots_valid, session_sound}
+use Rattle.model.specs.Valid.{clear, blank, installable, slot_sound, slot_decided, slots_valid, session_sound}
 use Rattle.model.specs.Valid.{session_decided, session_valid, valid, slots_zeros, zero_bytes, state_valid}
 use Rattle.model.proofs.Tests.{both, all_three}
 use Rattle.model.proofs.ValidSlots.{taken_apart, find_sound}

@@ -1,9 +1,8 @@
 -- Each clause of the definitions on a concrete input; every claim holds by computation. Assumes nothing.
-use Prim.Native.Nat.{ℕ}
 use mathlib.Core.Path.{◌≡◌, refl}
 use mathlib.Core.Bool.{true, false}
-use mathlib.Core.List.{List, [], ◌∷◌, map}
-use lib.Dec.{eqb, leb}
+use mathlib.Core.List.{[], ◌∷◌, map}
+use lib.Dec.{leb}
 use Rattle.words.specs.Numbers.{le_at, bytes_of}
 use Rattle.words.specs.Sets.{bit, member, insert, remove}
 use Rattle.words.specs.Search.{first_from, all_from}

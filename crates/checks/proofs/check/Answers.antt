@@ -1,5 +1,4 @@
 use mathlib.Core.Path.{sym, ◌∙◌}
-use borrow.Author.Tests.{not-false}
 use Rattle.model.specs.Calls.{check_call}
 use Rattle.checks.proofs.check.Goals as goal
 

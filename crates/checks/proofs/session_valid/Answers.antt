@@ -1,5 +1,4 @@
 use mathlib.Core.Path.{sym, ◌∙◌}
-use borrow.Author.Tests.{not-false}
 use Rattle.checks.proofs.Rows.{row_is}
 use Rattle.checks.proofs.Sessions.{session_nonzero, session_idle, session_unknown, session_known_lem, session_domain}
 use Rattle.checks.proofs.session_valid.Goals as goal

@@ -1,5 +1,4 @@
 use mathlib.Core.Path.{sym, ◌∙◌}
-use borrow.Author.Tests.{not-false}
 use Rattle.checks.proofs.Slots.{sound_domain, slot_nonzero, slot_unsound, slot_again, slot_last}
 use Rattle.checks.proofs.slot_valid.Goals as goal
 

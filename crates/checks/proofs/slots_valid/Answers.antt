@@ -1,7 +1,5 @@
 use mathlib.Core.Path.{sym, ◌∙◌}
-use Prim.Native.Nat.{◌-◌}
 use borrow.Author.Rules.{rules}
-use borrow.Author.Tests.{not-false}
 use Rattle.device.specs.Empty.{free}
 use Rattle.model.specs.State.{read_state}
 use Rattle.store.proofs.Records.{slots_get}

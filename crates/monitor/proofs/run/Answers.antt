@@ -1,7 +1,6 @@
 use mathlib.Core.Path.{ap, sym, ◌∙◌}
 use native.Mathlib.Omega.{arith}
 use borrow.Author.Rules.{rules}
-use borrow.Author.Tests.{not-false}
 use Rattle.device.specs.Answers.{refused}
 use Rattle.monitor.proofs.Laws.{checked_formed, fit_parts, run_refused, run_uneven, run_through}
 use Rattle.monitor.proofs.run.Goals as goal

@@ -1,5 +1,4 @@
 use mathlib.Core.Path.{◌≡◌}
-use Prim.Native.Nat.{◌-◌}
 use native.Mathlib.Omega.{arith}
 use borrow.Author.Rules.{rules}
 use Rattle.model.specs.Policy.{fixed_by}
@@ -9,12 +8,11 @@ use Rattle.monitor.proofs.Runs.{going_first, going_on, gone_through}
 use Rattle.monitor.proofs.run_events.Goals as goal
 
 pub loop-i-init : goal.loop-i-init
-loop-i-init c =
-    (
-      search rules,
-      going_first (fixed_by c.args.policy.now) (read_state c.args.state.now) c.args.records.now
-          c.args.out.now c.requires.0,
-    )
+loop-i-init c = (
+  search rules,
+  going_first (fixed_by c.args.policy.now) (read_state c.args.state.now) c.args.records.now
+      c.args.out.now c.requires.0,
+)
 
 pub turn-at-requires : goal.turn-at-requires
 turn-at-requires c =
@@ -22,13 +20,12 @@ turn-at-requires c =
     (held g.state, g.place, search rules, omega (arith, g.sized))
 
 pub loop-i-preserved : goal.loop-i-preserved
-loop-i-preserved c =
-    (
-      search rules,
-      going_on (fixed_by c.args.policy.now) (read_state c.args.state.now) c.args.records.now c.args.out.now
-          c.loop-i.i
-          c.loop-i.invariant.1 (search rules) c.turn-at.ensures,
-    )
+loop-i-preserved c = (
+  search rules,
+  going_on (fixed_by c.args.policy.now) (read_state c.args.state.now) c.args.records.now c.args.out.now
+      c.loop-i.i
+      c.loop-i.invariant.1 (search rules) c.turn-at.ensures,
+)
 
 pub returns : goal.returns
 returns c =

@@ -24,11 +24,10 @@ returns-then-k-ge-SLOT_COUNT c f =
     )
 
 pub returns : goal.returns
-returns c f =
-    (
-      did (start_done f c.args.state.now c.args.i c.place_of-k.result c.place_of-k.ensures
-          c.read_session-session.result c.read_session-session.ensures c.if-running-ne0.false c.if-k-ge-SLOT_COUNT.false)
-          c.done.ensures (rw (← c.none-decisions.ensures) c.write_session.ensures),
-      start_there f c.args.state.now c.args.i c.place_of-k.result c.place_of-k.ensures
-          c.read_session-session.result c.read_session-session.ensures c.if-running-ne0.false c.if-k-ge-SLOT_COUNT.false,
-    )
+returns c f = (
+  did (start_done f c.args.state.now c.args.i c.place_of-k.result c.place_of-k.ensures
+      c.read_session-session.result c.read_session-session.ensures c.if-running-ne0.false c.if-k-ge-SLOT_COUNT.false)
+      c.done.ensures (rw (← c.none-decisions.ensures) c.write_session.ensures),
+  start_there f c.args.state.now c.args.i c.place_of-k.result c.place_of-k.ensures
+      c.read_session-session.result c.read_session-session.ensures c.if-running-ne0.false c.if-k-ge-SLOT_COUNT.false,
+)
