@@ -9,9 +9,9 @@ folder=$(cd "${1:-$home/crates/report/data}" 2>/dev/null && pwd) || fail "$1 is 
 for tool in rt od awk; do
     command -v "$tool" >/dev/null || fail "$tool is not on the PATH"
 done
-cd "$home"
+cd "$home/crates/report"
 echo 'report.sh: building; some two minutes where nothing is built yet' >&2
-built=$(rt run report 2>&1) || fail "the report is not built:"$'\n'"$(tail -n 3 <<<"$built")"
+built=$(rt run 2>&1) || fail "the report is not built:"$'\n'"$(tail -n 3 <<<"$built")"
 
 words() {
     od -An -v -tu1 -w24 events.bin 2>/dev/null | awk '

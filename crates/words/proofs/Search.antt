@@ -1,5 +1,5 @@
 -- Walks over numbers. A loop that walks i up to e keeps `whole ≡ first_from f (e - i) i`, or the like of `all_from`: the laws
--- `-go`, `-stop` and `-done` take that to the next turn or to the answer. Assumes nothing.
+-- `_go`, `_stop` and `_done` take that to the next turn or to the answer. Assumes nothing.
 use mathlib.Core.Path.{◌≡◌, refl, sym, ◌∙◌}
 use mathlib.Core.Logic.{⊎_elim}
 use mathlib.Core.Bool.{Bool, true, false, ◌&&◌, cond, and-eq-true_iff, and_assoc, and-true}
