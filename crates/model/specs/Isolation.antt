@@ -58,7 +58,7 @@ is_request (Start i) = false
 is_request Terminate = false
 is_request (Request p u) = true
 
--- one record may stand where the other does: it is the same_suite, or both have a request's kind and the suite is not running
+-- one record may stand where the other does: it is the same, or both have a request's kind and the suite is not running
 abbrev pub MayReplace : (running : Bool) → (event event' : List ℕ) → Type 0
 MayReplace running event event' =
     (event ≡ event') ⊎ ((running ≡ false) × (is_request_kind event ≡ true) × (is_request_kind event' ≡ true))

@@ -38,7 +38,7 @@ all_fit decisions test = is_set decisions.granted && (is_set decisions.revoked &
 
 -- Decisions that hold as long as the mode says, at one permission. A grant needs a declared permission, and a cell that lets the user
 -- consent in that mode: 3 for good (004 2.15), 2 or 3 for a session (000 (16)). A revocation of either kind needs a declared
--- permission that the user is asked about: cell 1, 2 or 3 (004's policy_compatible wants only a cell other than 0). None is both
+-- permission that the user is asked about: cell 1, 2 or 3 (004's policyCompatible wants only a cell other than 0). None is both
 -- (000, 3.2, 6).
 abbrev pub fitting : Mode → (declared : Bool) → (cell : ℕ) → (granted revoked : Bool) → Bool
 fitting mode declared cell granted revoked =
@@ -94,7 +94,7 @@ unfoldable pub session_sound : State → Bool
 session_sound state =
     cond (same_suite state.session.suite no_suite) (clear state.session.decisions) (carries state.session.suite state.slots)
 
--- its decisions, which hold for the session, on permissions that its slot leaves undecided (004's perm_state_coherence)
+-- its decisions, which hold for the session, on permissions that its slot leaves undecided (004's permStateCoherence)
 abbrev pub fits_beside : Fixed → Slot → Decisions → Permission → Bool
 fits_beside fixed slot decisions permission =
     fits fixed slot ForSession decisions permission && not (decides decisions permission && decides slot.decisions permission)

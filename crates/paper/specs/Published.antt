@@ -1,8 +1,8 @@
 -- The published model: document 000, 3.1 to 3.5 and (27), by its names and formula numbers, in its order. From document 004 comes
--- what 000 leaves out: ValidGranted (2.15), perm_state_coherence and policy_compatible (2.3.1), the request (Figures 2.2 to 2.4).
+-- what 000 leaves out: ValidGranted (2.15), permStateCoherence and policyCompatible (2.3.1), the request (Figures 2.2 to 2.4).
 --
 -- A proposition is a type; ∃ and ∨ are pairs and sums, which say more than the paper's where shown and ask more where supposed. The
--- sets SuiteId, Permission, Domain and Mode are the monitor's own types, and a set of permissions is any predicate.
+-- sets SuiteID, Permission, Domain and Mode are the monitor's own types, and a set of permissions is any predicate.
 use Rattle.std.specs.Prelude.{◌≡◌, ◌⊎◌, ◌≢◌, List, [], ◌∷◌, ◌≤◌}
 use Rattle.std.proofs.Math.Logic.{Lift}
 use Rattle.std.proofs.Math.Option.{Option, none, some}
