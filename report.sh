@@ -10,7 +10,7 @@ for tool in rt od awk; do
     command -v "$tool" >/dev/null || fail "$tool is not on the PATH"
 done
 cd "$home/crates/report"
-echo 'report.sh: building; some two minutes where nothing is built yet' >&2
+echo 'report.sh: building; a few minutes where nothing is built yet' >&2
 built=$(rt run 2>&1) || fail "the report is not built:"$'\n'"$(tail -n 3 <<<"$built")"
 
 words() {
