@@ -174,7 +174,6 @@ impl Mode {
     }
 
     // The mode with that number; the widest for a number that is none's.
-    #[tactic(auto, unfolding(crate::specs::Device::mode_of))]
     pub fn of(number: u8) -> Mode
         ensures { result ≡ mode_of number }
     {
@@ -188,7 +187,6 @@ impl Mode {
     }
 
     // The highest mode that a cell of the policy takes, for every byte.
-    #[tactic(auto, unfolding(crate::specs::Cells::highest))]
     pub fn highest(cell: u8) -> Consent
         ensures { result ≡ highest cell }
     {
@@ -212,7 +210,6 @@ impl UserAnswer {
     }
 
     // The answer with that number, for every byte; none where there is none.
-    #[tactic(auto, unfolding(crate::specs::UserAnswers::answer_of))]
     pub fn of(number: u8) -> UserAnswer
         ensures { result ≡ answer_of number }
     {

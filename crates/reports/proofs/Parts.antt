@@ -1,19 +1,27 @@
 -- Parts of a text put behind each other into lent bytes. Assumes nothing.
 use mathlib.Core.Path.{◌≡◌, refl, sym, ap, ◌∙◌}
-use mathlib.Core.List.{List, ◌∷◌, ◌++◌, append_assoc}
+use mathlib.Core.List.{List, ◌∷◌, ◌++◌, append-nil, append_assoc}
 use Prim.Native.Nat.{ℕ, zero, suc, ◌+◌, ◌-◌, ◌≤◌}
 use native.Mathlib.Omega.{arith}
-use borrow.Rule.Slice.PartMut.{put_mid, Post-is}
-use lib.ListN.{length, take, replicate, length-append}
-use lib.Seq.{sets, sets-eq, length-sets}
+use lib.ListN.{length, take, drop, replicate, length-append, length-drop, drop_of_length-le}
+use lib.Seq.{sets, sets-eq, length-sets, take_all, take-length, drop-drop}
 use Rattle.words.proofs.Stores.{sets_then}
 use Rattle.reports.specs.Steps.{Puts}
 
--- a part that is copied over the bytes from a place on
-pub copied : (lent part left : List ℕ) (at : ℕ) → left ≡ part → at + length part ≤ length lent
-    → put_mid at (at + length part - at) lent left ≡ sets lent at part
-copied lent part left at e h =
-    rw (e, Post-is at (at + length part) lent (omega arith), ← append_assoc) (sym (sets-eq part lent at h))
+-- a part that is copied over the first of the bytes from a place on
+pub copied : (lent part : List ℕ) (at : ℕ) → at + length part ≤ length lent
+    → take at lent ++ ((take (length part) part ++ drop (length part) (take (length lent - at) (drop at lent)))
+    ++ drop (length lent - at) (drop at lent)) ≡ sets lent at part
+copied lent part at h =
+    let n : length (drop at lent) ≤ length lent - at = rw length-drop (omega arith) in
+    rw (
+      take-length,
+      take_all (length lent - at) (drop at lent) n,
+      drop_of_length-le (drop at lent) n,
+      append-nil,
+      drop-drop,
+      ← append_assoc,
+    ) (sym (sets-eq part lent at h))
 
 pub puts_same : {part part' before after : List ℕ} {at next : ℕ} → part ≡ part' → Puts part before at after next
     → Puts part' before at after next

@@ -1,7 +1,7 @@
 // The report of a run: the answer to each event, from a new state under a policy, as text; and printed, for two files.
 #![tactic(auto)]
 
-ghost use Rattle.std.specs.Prelude.{IfOk, ◌≡◌, ◌++◌, ◌*◌, ◌/◌, ◌≤◌, length, replicate};
+ghost use Rattle.std.specs.Prelude.{IfOk, ◌≡◌, ◌++◌, ◌*◌, ◌/◌, ◌≤◌, drop, length, min, replicate, take};
 ghost use Rattle.io.specs.Counts.{IsPrefixLen};
 ghost use Rattle.model.specs.Events.{event_size};
 ghost use Rattle.model.specs.Calls.{answer_size};
@@ -20,13 +20,21 @@ pub const TEXT_SIZE: usize = 13 * MOST_EVENTS + 9;
 
 // ---- the text, part by part: each goes into `lent` from `at` on, and the place behind it is returned
 
+// As much of a part as there is room for, and how much that is.
+fn copy(part: &[u8], room: &mut [u8]) -> usize
+    ensures size { result ≡ min (length part.now) (length room.old) }
+    ensures bytes { room.new ≡ take result part.now ++ drop result room.old }
+{
+    let size = part.len().min(room.len());
+    room[..size].copy_from_slice(&part[..size]);
+    size
+}
+
 fn put(lent: &mut [u8], at: usize, part: &[u8]) -> usize
     requires { Room part.now lent.old at }
     ensures { Puts part.now lent.old at lent.new result }
 {
-    let end = at + part.len();
-    lent[at..end].copy_from_slice(part);
-    end
+    at + copy(part, &mut lent[at..])
 }
 
 fn put_number(lent: &mut [u8], at: usize, number: u64, behind: &[u8]) -> usize

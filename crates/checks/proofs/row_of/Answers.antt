@@ -8,8 +8,6 @@ use Rattle.checks.proofs.Rows.{four_more, plane_small, splits_1, splits_2, split
 use Rattle.checks.proofs.Rows.{policy_size_lem, row_made}
 use Rattle.checks.proofs.row_of.Goals as goal
 
--- the numbers fit
-
 pub loop-p-init : goal.loop-p-init
 unfolding set_from
 loop-p-init c = search rules
@@ -49,6 +47,7 @@ returns c =
     let (_, _, ones, twos, fours) = l.invariant in
     rw (ones, twos, fours, e) (row_made c.args.policy.now c.requires.0 c.args.domain c.requires.1)
 
+-- the numbers fit
 pub overflow_mul-ones : goal.overflow_mul-ones
 overflow_mul-ones c =
     let a = c.args in
