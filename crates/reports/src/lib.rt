@@ -170,7 +170,8 @@ fn text_of_files<R: Files>(rt: &R, policy_path: &[u8], events_path: &[u8], lent:
     text(&policy[..policy_size], &events[..events_size], lent)
 }
 
-// Prints the report on two files, of which one that does not open has length 0, and tells how long it is.
+// Prints the report on two files, of which one that does not open has length 0, and tells how long it is. The only error is a
+// write that fails; what was written before it stays.
 pub fn print<R: Files, W: Write>(
     rt: &R,
     out: &mut W,
