@@ -6,6 +6,7 @@ type; a dash stays between two names, as in `le_at-add`, and becomes a low line 
 a constant's. The proof of a function `f` is `f_spec`. Edits of must-fail/ are respelled with the files that they speak of.
 """
 import glob
+import os
 import re
 
 LETTER = r"\w'₀-₉-"
@@ -91,6 +92,8 @@ def edit_text(text, new):
 
 
 def main():
+    if os.path.exists("docs/PORT.md"):
+        raise SystemExit("respell.py: this tree is respelled already, as docs/PORT.md says")
     new = table()
     fallen = sorted(n for n in set(new.values()) if list(new.values()).count(n) > 1)
     if fallen:
