@@ -1,11 +1,12 @@
 -- Steps between the text and the code.
-use Rattle.std.specs.Prelude.{ℕ, suc, ◌+◌, ◌*◌, ◌≤◌, ◌≡◌, cond, List, length, ltb}
+use Rattle.std.specs.Prelude.{ℕ, suc, ◌+◌, ◌*◌, ◌≤◌, ◌≡◌, cond, List, Option, length, ltb, take}
+use Rattle.std.specs.Io.KnownBytes.{Appends}
 use Rattle.std.proofs.lemmas.List.Edits.{sets}
 use Rattle.io.specs.Counts.{IsPrefixLen}
 use Rattle.model.specs.Policy.{policy_size}
 use Rattle.model.specs.Events.{event_size}
 use Rattle.model.specs.Calls.{answer_size}
-use Rattle.reports.specs.Text.{most_events, made, text_call}
+use Rattle.reports.specs.Text.{most_events, text_size, made, text_call}
 
 -- a part of the text has room in the lent bytes from a place on
 abbrev pub Room : (part lent : List ℕ) (at : ℕ) → Type 0
@@ -38,8 +39,17 @@ pub record OfFiles (before after : List ℕ) (size : ℕ) : Type 0 where
   pub counts : IsPrefixLen size after
   pub text : made size after ≡ text_call policy events before
 
--- so many of some such bytes; that they are written is what no contract can say
+-- so many of some such bytes
 pub record Printed (size : ℕ) : Type 0 where
   pub before : List ℕ
   pub lent : List ℕ
   pub of_files : OfFiles before lent size
+
+-- behind what a writer held stand so many of some such bytes, lent with room for every text. Of a writer whose bytes nothing tells,
+-- as a terminal's, that says no more
+pub record Wrote (held holds : Option (List ℕ)) (size : ℕ) : Type 0 where
+  pub before : List ℕ
+  pub lent : List ℕ
+  pub room : length before ≡ text_size
+  pub of_files : OfFiles before lent size
+  pub sent : Appends held holds (take size lent)

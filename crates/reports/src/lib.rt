@@ -7,7 +7,7 @@ ghost use Rattle.model.specs.Events.{event_size};
 ghost use Rattle.model.specs.Calls.{answer_size};
 ghost use Rattle.reports.specs.Text.{decimal, line, lines, closing, text_of, report_text};
 ghost use Rattle.reports.specs.Text.{most_events, text_size, made, text_call};
-ghost use Rattle.reports.specs.Steps.{Room, Puts, room_for, OfFiles, Printed};
+ghost use Rattle.reports.specs.Steps.{Room, Puts, room_for, OfFiles, Printed, Wrote};
 
 use std::fs;
 use std::io::{Read, Write};
@@ -178,7 +178,8 @@ pub fn print<R: Files, W: Write>(
     policy_path: &[u8],
     events_path: &[u8],
 ) -> std::io::Result<usize>
-    ensures { IfOk result (λ size. Printed size) }
+    ensures printed { IfOk result (λ size. Printed size) }
+    ensures wrote { IfOk result (λ size. Wrote (W.contents out.old) (W.contents out.new) size) }
 {
     let mut lent = [0u8; TEXT_SIZE];
     let size = text_of_files(rt, policy_path, events_path, &mut lent);
