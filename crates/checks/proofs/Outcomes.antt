@@ -15,7 +15,7 @@ use Rattle.model.specs.State.{place, read_state}
 use Rattle.device.specs.Answers.{refused}
 use Rattle.model.specs.Calls.{Part, leaving, new_call, check_call, find_call, part_call}
 use Rattle.model.proofs.Calls.{one_outcome, new_leaves}
-use Rattle.checks.specs.Parts.{IsPart}
+use Rattle.checks.specs.Parts.{IsPart, Placed, place_call}
 use Rattle.checks.proofs.Finding.{part_none, part_slot, found_place}
 
 pub policy_unique : (policy : List ℕ) {r r' : Bool} → r ≡ policy_valid policy → r' ≡ policy_valid policy → r ≡ r'
@@ -54,3 +54,18 @@ part_empty policy b i {r} x = go (refused (find_call policy b.now i)) refl
         let k = place i (read_state b.now).slots in
         let full : min 40 (1320 - 40 * suc k) ≡ 40 = omega arith in
         ap (λ l. eqb (length l) 0) x.bytes ∙ rw (part_slot policy b.now i e, length-take, length-drop, size, full)
+
+-- ---- the place of a suite: as `find` answers, and where its part begins
+
+pub place_unique : (policy state : List ℕ) (i : Suite) {r r' : Placed} → r ≡ place_call policy state i → r' ≡ place_call policy state i
+    → r ≡ r'
+place_unique policy state i p q = p ∙ sym q
+
+pub place_finds : (policy state : List ℕ) (i : Suite) → (place_call policy state i).response ≡ find_call policy state i
+unfolding place_call
+place_finds policy state i = refl
+
+pub place_part : (policy state : List ℕ) (i : Suite) → refused (find_call policy state i) ≡ false
+    → part_call policy state i ≡ record { from = 40 * suc (place_call policy state i).slot; size = 40 }
+unfolding place_call
+place_part policy state i h = part_slot policy state i h ∙ sym (rw h)

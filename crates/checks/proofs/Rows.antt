@@ -1,14 +1,21 @@
 -- The rows of a policy: from the bits of its cells to the sets of the four classes, and the row of a domain. Assumes nothing.
 use mathlib.Core.Path.{◌≡◌, refl, ap, sym, ◌∙◌}
 use mathlib.Core.Bool.{Bool, true, ◌&&◌, ◌||◌}
-use mathlib.Core.List.{List}
+use mathlib.Core.List.{List, ◌∷◌}
 use Prim.Native.Nat.{ℕ, zero, suc, ◌+◌, ◌-◌, ◌*◌, ◌^◌, ◌/◌, ◌%◌, ◌≤◌, ◌<◌}
 use native.Mathlib.Nat.{lt_of_lt_of_le, zero-add, pow-succ', mul_assoc}
+use native.Mathlib.Numerals.{add-one}
 use native.Mathlib.Omega.{arith}
 use lib.Bits.{bit_and, bit_or, or_lt, and_lt}
 use lib.Dec.{eqb, leb}
-use lib.ListN.{length, get_or}
+use lib.ListN.{length, get_or, drop, drop_of_length-le}
 use lib.Pow.{pow_mono}
+use Rattle.std.proofs.Math.Seq.{drop-cons}
+use Rattle.std.proofs.Common.{inl, inr}
+use Rattle.std.proofs.lemmas.Bool.{cases_lt}
+use Rattle.std.proofs.lemmas.List.{get_or_past}
+use Rattle.std.specs.Fn.{Mut, Called}
+use Rattle.std.specs.Array.{IsFromFnResultFrom}
 use borrow.Author.Tests.{eqb-true, leb-true, ltb-true}
 use Rattle.words.specs.Search.{all_from}
 use Rattle.words.specs.Sets.{bit, member}
@@ -26,6 +33,10 @@ use Rattle.checks.specs.Rows.{set_from, low_bits, those, admitting, row_of, rows
 use Rattle.checks.proofs.Sets.{set_from-lt, set_member, those_lt, those_has}
 
 -- ---- the three bits of the cells
+
+-- of at most 60, a set can be had sixteen times
+pub set_from_small : (f : ℕ → Bool) (n i : ℕ) → n ≤ 60 → set_from f n i < 2 ^ 60
+set_from_small f n i l = lt_of_lt_of_le (set_from-lt f n i) (pow_mono {j = 60} l)
 
 module _ (b : List ℕ) (start k : ℕ) where
   -- the permissions from p on whose cell has bit k
@@ -61,9 +72,16 @@ module _ (b : List ℕ) (start k : ℕ) where
       let g = rw (q, z) at (gathered d h bytes 4 (64 - p) (p - 4)) in
       rw (bits, cells, e) (omega (arith, g))
 
+  -- the same, where p counts in fours
+  pub four_before : (d : ℕ) → Splits d → ((i : ℕ) → get_or b i 0 < 256) → {s w r : ℕ} (i : ℕ) → s ≡ plane_from (4 * i) → 0 < i → i ≤ 16
+      → w ≡ le_at 4 b (start + 4 * (i - 1)) → r ≡ low_bits 4 (w / d) → 16 * s + r ≡ plane_from (4 * (i - 1))
+  four_before d h bytes i e l m cells bits =
+      let q : 4 * i - 4 ≡ 4 * (i - 1) = omega arith in
+      rw q at (four_more d h bytes (4 * i) e (omega arith) (omega arith) (rw q cells) bits)
+
   -- it can be had sixteen times
   pub plane_small : {s p : ℕ} → s ≡ plane_from p → p % 4 ≡ 0 → 0 < p → s < 2 ^ 60
-  plane_small {p = p} h n l = rw h (lt_of_lt_of_le (set_from-lt _ (64 - p) p) (pow_mono {j = 60} (omega arith)))
+  plane_small {p = p} h n l = rw h (set_from_small _ (64 - p) p (omega arith))
 
 pub splits_1 : (b : List ℕ) (start : ℕ) → Splits b start 0 1
 unfolding bit
@@ -77,9 +95,12 @@ pub splits_4 : (b : List ℕ) (start : ℕ) → Splits b start 2 4
 unfolding bit
 splits_4 b start c w l = (omega arith, omega arith)
 
-pub low_bits-lt : {r : ℕ} (w : ℕ) → r ≡ low_bits 4 w → r < 16
+pub low_bits_small : (w : ℕ) → low_bits 4 w < 16
 unfolding low_bits
-low_bits-lt w e = rw e (omega arith)
+low_bits_small w = omega arith
+
+pub low_bits-lt : {r : ℕ} (w : ℕ) → r ≡ low_bits 4 w → r < 16
+low_bits-lt w e = rw e (low_bits_small w)
 
 -- ---- four lowest bits by one product
 
@@ -119,6 +140,20 @@ pub policy_size_lem : (b : List ℕ) → policy_valid b ≡ true → length b �
 unfolding policy_valid
 policy_size_lem b v = eqb-true _ 512 (both (eqb (length b) 512) _ v).0
 
+-- no cell is above 4, and behind them there is none
+pub cell_small : (b : List ℕ) → policy_valid b ≡ true → (i : ℕ) → get_or b i 0 ≤ 4
+unfolding policy_valid
+cell_small b v i =
+    let size = policy_size_lem b v in
+    let cells = (both (eqb (length b) 512) (all_from (λ k. leb (get_or b k 0) 4) 512 0) v).1 in
+    elim (cases_lt i 512) [
+      | inl l ↦ leb-true _ 4 (all_from_at (λ k. leb (get_or b k 0) 4) 512 0 cells i (omega arith) (omega arith))
+      | inr l ↦ let none : get_or b i 0 ≡ 0 = get_or_past b i 0 (omega arith) in omega arith
+    ]
+
+-- what keeps the numbers of a row's walk in their types
+pub ruleset row_sizes = (set_from_small, low_bits_small, policy_size_lem)
+
 -- ---- the four classes, by those bits
 
 abbrev Classes : ℕ → Type 0
@@ -136,12 +171,6 @@ classes (suc (suc (suc (suc zero)))) l = (refl, refl, refl, refl)
 classes (suc (suc (suc (suc (suc c))))) l = absurd (omega arith)
 
 module _ (b : List ℕ) (v : policy_valid b ≡ true) (d : ℕ) (l : d < 8) where
-  cell_small : (n : ℕ) → n < 64 → get_or b (64 * d + n) 0 ≤ 4
-  unfolding policy_valid
-  cell_small n m =
-      let cells = (both (eqb (length b) 512) (all_from (λ i. leb (get_or b i 0) 4) 512 0) v).1 in
-      leb-true _ 4 (all_from_at (λ i. leb (get_or b i 0) 4) 512 0 cells (64 * d + n) (omega arith) (omega arith))
-
   abbrev plane : ℕ → ℕ
   plane k = plane_from b (64 * d) k 0
 
@@ -169,13 +198,13 @@ module _ (b : List ℕ) (v : policy_valid b ≡ true) (d : ℕ) (l : d < 8) wher
   row_made = λ i. record {
     offered = made offered _ (or_lt 64 _ _ asked_lt (plane_lt 2))
         (λ n m. rw (member_or, member_or, plane_at 0 n m, plane_at 1 n m, plane_at 2 n m) (classes (get_or b (64 * d + n) 0)
-        (cell_small n m)).0) i;
+        (cell_small b v (64 * d + n))).0) i;
     asked = made (λ c. admits c Oneshot) _ asked_lt
-        (λ n m. rw (member_or, plane_at 0 n m, plane_at 1 n m) (classes (get_or b (64 * d + n) 0) (cell_small n m)).1) i;
+        (λ n m. rw (member_or, plane_at 0 n m, plane_at 1 n m) (classes (get_or b (64 * d + n) 0) (cell_small b v (64 * d + n))).1) i;
     session = made (λ c. admits c Session) _ (plane_lt 1)
-        (λ n m. plane_at 1 n m ∙ (classes (get_or b (64 * d + n) 0) (cell_small n m)).2) i;
+        (λ n m. plane_at 1 n m ∙ (classes (get_or b (64 * d + n) 0) (cell_small b v (64 * d + n))).2) i;
     blanket = made (λ c. admits c Blanket) _ (and_lt 64 _ _ (plane_lt 0) (plane_lt 1))
-        (λ n m. rw (member_and, plane_at 0 n m, plane_at 1 n m) (classes (get_or b (64 * d + n) 0) (cell_small n m)).3) i;
+        (λ n m. rw (member_and, plane_at 0 n m, plane_at 1 n m) (classes (get_or b (64 * d + n) 0) (cell_small b v (64 * d + n))).3) i;
   }
     where
       asked_lt : bit_or (plane 0) (plane 1) < 2 ^ 64
@@ -195,3 +224,18 @@ row_is f d none e h =
     let l = ltb-true d.0 8 h in
     let m : d.0 % 8 ≡ d.0 = omega arith in
     rw (e, m) (rows_get f 8 0 d.0 none l ∙ ap (λ n. row_of f (record { 0 = n })) (zero-add d.0))
+
+-- ---- the rows
+
+-- made by a call for each domain from d on
+pub rows_made : {F : Type 0} (g : Mut F (ℕ × Unit {0}) Row) (fn : F) (f : Fixed)
+    → ((k : ℕ) (row : Row) (left : F) → k < 8 → Called g fn (k, tt) row left → (left ≡ fn) × (row ≡ row_of f (record { 0 = k })))
+    → (rows : List Row) → length rows ≡ 8 → (n d : ℕ) → d + n ≡ 8 → IsFromFnResultFrom g fn rows d n → drop d rows ≡ rows_from f n d
+unfolding rows_from
+rows_made g fn f call rows long zero d e calls = drop_of_length-le rows (omega arith)
+rows_made g fn f call rows long (suc n) d e calls =
+    let (left, row, at, called, rest) = calls in
+    let (same, is) = call d row left (omega arith) called in
+    drop-cons rows d row (omega arith)
+    ∙ ap (λ r. r ∷ drop (suc d) rows) (at.0 ∙ is)
+    ∙ ap (λ rs. row_of f (record { 0 = d }) ∷ rs) (rows_made g fn f call rows long n (suc d) (omega arith) (rw (same, add-one) at rest))

@@ -1,6 +1,6 @@
 -- A slot and a session against the sets of their domain's row, and the walk over the slots. Assumes nothing.
 use mathlib.Core.Path.{◌≡◌, refl, ap, sym, ◌∙◌}
-use mathlib.Core.Bool.{Bool, true, false, not, ◌&&◌, ◌||◌, cond, and-false, and_assoc, or-false, or_assoc}
+use mathlib.Core.Bool.{Bool, true, false, not, ◌&&◌, ◌||◌, cond, and-false, and_assoc, or-false, or_assoc, or_comm}
 use mathlib.Core.List.{List, [], ◌∷◌}
 use Prim.Native.Nat.{ℕ, zero, suc, ◌+◌, ◌-◌, ◌*◌, ◌^◌, ◌≤◌, ◌<◌}
 use native.Mathlib.Numerals.{add-one}
@@ -88,6 +88,13 @@ module _ (b : List ℕ) (i : Suite) (j : ℕ) (l : 0 < j) where
       w ∙ ap (λ t. seen || t) lower_turn
       ∙ rw (or_assoc seen (eqb x i.0) (among i (lower_of b (j - 1))), ← e, eqb_sym i.0 x)
 
+-- upwards, x: the number of one more of them
+pub lower_next : (b : List ℕ) (i : Suite) (j : ℕ) {seen : Bool} {x : ℕ} → seen ≡ among i (lower_of b j) → x ≡ le_at 2 b (40 + 40 * j)
+    → (seen || eqb x i.0) ≡ among i (lower_of b (j + 1))
+lower_next b i j e r =
+    let back : j + 1 - 1 ≡ j = omega arith in
+    rw (lower_turn b i (j + 1) (omega arith), back, e, r, or_comm (among i (lower_of b j)), eqb_sym (le_at 2 b (40 + 40 * j)))
+
 -- ---- a slot in itself
 
 module _ (f : Fixed) (x : Slot) where
@@ -145,7 +152,7 @@ module _ (f : Fixed) (b : List ℕ) (k : ℕ) where
   abbrev pub rest : Bool
   rest = slot_records_valid f b (lower_of b k) (32 - k) (40 + 40 * k)
 
-  turn : k < 32 → rest ≡ (slot_record_valid f b k && slot_records_valid f b (lower_of b (k + 1)) (32 - (k + 1)) (40 + 40 * (k + 1)))
+  pub turn : k < 32 → rest ≡ (slot_record_valid f b k && slot_records_valid f b (lower_of b (k + 1)) (32 - (k + 1)) (40 + 40 * (k + 1)))
   unfolding slot_records_valid slot_record_valid lower_of
   turn l =
       let n : 32 - k ≡ suc (32 - (k + 1)) = omega arith in
@@ -162,6 +169,11 @@ module _ (f : Fixed) (b : List ℕ) (k : ℕ) where
   pub walk_done : {whole : Bool} → whole ≡ rest → 32 ≤ k → true ≡ whole
   unfolding slot_records_valid
   walk_done w l = let n : 32 - k ≡ 0 = omega arith in sym (w ∙ rw n)
+
+pub rest_end : (f : Fixed) (b : List ℕ) (k : ℕ) → 32 ≤ k → rest f b k ≡ true
+rest_end f b k l = sym (walk_done f b k refl l)
+
+pub ruleset walk = (turn, rest_end)
 
 -- ---- the walk, and the validity of the bytes
 
@@ -193,3 +205,7 @@ walk_valid f b =
     crossed true false true v = refl
     crossed true false false v = refl
     crossed false vs z v = refl
+
+pub state_records : (f : Fixed) (b : List ℕ) → length b ≡ state_size
+    → state_valid f b ≡ (slot_records_valid f b [] slot_count record_size && (session_zeros b && session_valid f (read_state b)))
+state_records f b size = sym (walk_valid f b) ∙ rw (eq-eqb _ _ size)

@@ -7,8 +7,9 @@ use lib.ListN.{replicate}
 use lib.Dec.{ltb}
 use Rattle.words.specs.Sets.{bit, member}
 use Rattle.words.specs.Search.{first_from, all_from}
+use Rattle.device.specs.declared.Mode.{Mode}
 use Rattle.device.specs.declared.Mode.TheVariants.{Oneshot, Session, Blanket}
-use Rattle.device.specs.declared.Consent.TheVariants.{Unasked, UpTo}
+use Rattle.std.specs.Prelude.{Some, None as nobody, Ok, Err}
 use Rattle.device.specs.declared.UserAnswer.TheVariants.{None, Allow, Deny}
 use Rattle.device.specs.Device.{is_permission, is_domain, is_suite, no_suite, same_suite, slot_count, width, mode_of, is_set, has}
 use Rattle.device.specs.Device.{every, lowest}
@@ -18,6 +19,10 @@ use Rattle.device.specs.Empty.{free, idle}
 use Rattle.device.specs.Answers.{refused, plain, DONE, ALLOWED, DENIED, ASK, BAD_POLICY, BAD_STATE, BAD_EVENT}
 use Rattle.device.specs.Answers.{NO_SESSION, BUSY, NOT_INSTALLED, INSTALLED, NOT_OFFERED, NO_ROOM, ACTIVE}
 use Rattle.device.specs.Answers.{NOT_DECLARED, NO_RIGHT, ANSWER_NOT_ASKED, MODE_TOO_WIDE, BAD_LENGTH}
+use Rattle.device.specs.declared.Answer.TheVariants.{Done, Allowed, Denied, Ask}
+use Rattle.device.specs.declared.Refusal.TheVariants.{BadPolicy, BadState, BadEvent, NoSession, Busy, NotInstalled, Installed, NotOffered}
+use Rattle.device.specs.declared.Refusal.TheVariants.{NoRoom, Active, NotDeclared, NoRight, AnswerNotAsked, ModeTooWide, BadLength}
+use Rattle.device.specs.Answers.{answering, refusing, answered, done}
 
 -- ---- the numbers of the device
 
@@ -68,7 +73,7 @@ offers = refl
 allows : map unconditional (0 ∷ 1 ∷ 2 ∷ 3 ∷ 4 ∷ 5 ∷ []) ≡ (false ∷ false ∷ false ∷ false ∷ true ∷ false ∷ [])
 allows = refl
 
-asks : map highest (0 ∷ 1 ∷ 2 ∷ 3 ∷ 4 ∷ 5 ∷ []) ≡ (Unasked ∷ UpTo Oneshot ∷ UpTo Session ∷ UpTo Blanket ∷ Unasked ∷ Unasked ∷ [])
+asks : map highest (0 ∷ 1 ∷ 2 ∷ 3 ∷ 4 ∷ 5 ∷ []) ≡ (nobody ∷ Some Oneshot ∷ Some Session ∷ Some Blanket ∷ nobody ∷ nobody ∷ [])
 unfolding highest mode_of
 asks = refl
 
@@ -112,3 +117,23 @@ details = refl
 
 refusals : map (λ n. refused (plain n)) (3 ∷ 15 ∷ 16 ∷ 30 ∷ []) ≡ (false ∷ false ∷ true ∷ true ∷ [])
 refusals = refl
+
+-- ---- the cases of the code
+
+answers : map (λ a. (answering a).number) (Done ∷ Allowed ∷ Denied ∷ Ask 2 ∷ []) ≡ (0 ∷ 1 ∷ 2 ∷ 3 ∷ [])
+answers = refl
+
+refusals_by_case : map (λ e. (refusing e).number) (BadPolicy ∷ BadState ∷ BadEvent ∷ NoSession ∷ Busy ∷ NotInstalled ∷ Installed
+    ∷ NotOffered (record { 0 = 5 }) ∷ NoRoom ∷ Active ∷ NotDeclared ∷ NoRight ∷ AnswerNotAsked ∷ ModeTooWide 2 ∷ BadLength ∷ [])
+    ≡ (16 ∷ 17 ∷ 18 ∷ 19 ∷ 20 ∷ 21 ∷ 22 ∷ 23 ∷ 24 ∷ 25 ∷ 26 ∷ 27 ∷ 28 ∷ 29 ∷ 30 ∷ [])
+refusals_by_case = refl
+
+details_by_case : (answering (Ask 2)).detail ∷ map (λ e. (refusing e).detail) (Busy ∷ NotOffered (record { 0 = 5 }) ∷ ModeTooWide 3 ∷ [])
+    ≡ (2 ∷ 0 ∷ 5 ∷ 3 ∷ [])
+details_by_case = refl
+
+outcomes : map (λ o. (answered o).number) (Ok Denied ∷ Err Busy ∷ []) ≡ (2 ∷ 20 ∷ [])
+outcomes = refl
+
+checks : map (λ o. (done {A = Mode} o).number) (Ok Oneshot ∷ Err Busy ∷ []) ≡ (0 ∷ 20 ∷ [])
+checks = refl

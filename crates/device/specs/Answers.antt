@@ -1,6 +1,11 @@
 -- 01, Answer numbers: a number and a detail, which is 0 but for three of them.
-use Rattle.std.specs.Prelude.{ℕ, Bool, leb}
+use Rattle.std.specs.Prelude.{ℕ, Bool, leb, Result, Ok, Err}
 use Rattle.device.specs.declared.Permission.{Permission}
+use Rattle.device.specs.declared.Answer.{Answer}
+use Rattle.device.specs.declared.Answer.TheVariants.{Done, Allowed, Denied, Ask}
+use Rattle.device.specs.declared.Refusal.{Refusal}
+use Rattle.device.specs.declared.Refusal.TheVariants.{BadPolicy, BadState, BadEvent, NoSession, Busy, NotInstalled, Installed, NotOffered}
+use Rattle.device.specs.declared.Refusal.TheVariants.{NoRoom, Active, NotDeclared, NoRight, AnswerNotAsked, ModeTooWide, BadLength}
 use Rattle.device.specs.declared.Response.{Response}
 
 abbrev pub plain : ℕ → Response
@@ -75,3 +80,37 @@ MODE_TOO_WIDE cell = detailed 29 cell
 
 abbrev pub BAD_LENGTH : Response
 BAD_LENGTH = plain 30
+
+-- ---- the number and the detail of each case
+
+abbrev pub answering : Answer → Response
+answering Done = DONE
+answering Allowed = ALLOWED
+answering Denied = DENIED
+answering (Ask cell) = ASK cell
+
+abbrev pub refusing : Refusal → Response
+refusing BadPolicy = BAD_POLICY
+refusing BadState = BAD_STATE
+refusing BadEvent = BAD_EVENT
+refusing NoSession = NO_SESSION
+refusing Busy = BUSY
+refusing NotInstalled = NOT_INSTALLED
+refusing Installed = INSTALLED
+refusing (NotOffered permission) = NOT_OFFERED permission
+refusing NoRoom = NO_ROOM
+refusing Active = ACTIVE
+refusing NotDeclared = NOT_DECLARED
+refusing NoRight = NO_RIGHT
+refusing AnswerNotAsked = ANSWER_NOT_ASKED
+refusing (ModeTooWide cell) = MODE_TOO_WIDE cell
+refusing BadLength = BAD_LENGTH
+
+-- of what an event is answered, and of a call that has no answer but DONE, whatever it hands on
+abbrev pub answered : Result Answer Refusal → Response
+answered (Ok answer) = answering answer
+answered (Err refusal) = refusing refusal
+
+abbrev pub done : {A : Type 0} → Result A Refusal → Response
+done (Ok value) = DONE
+done (Err refusal) = refusing refusal

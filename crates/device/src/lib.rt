@@ -6,36 +6,28 @@ ghost use Rattle.device.specs.Device.{is_suite, is_permission, is_domain, width,
 ghost use Rattle.device.specs.Cells.{offered, unconditional, highest};
 ghost use Rattle.device.specs.UserAnswers.{answer_no, answer_of};
 ghost use Rattle.device.specs.Empty.{undecided, free, idle};
-ghost use Rattle.device.specs.Answers.{plain, refused, DONE, ALLOWED, DENIED, ASK, BAD_POLICY, BAD_STATE, BAD_EVENT};
-ghost use Rattle.device.specs.Answers.{NO_SESSION, BUSY, NOT_INSTALLED, INSTALLED, NOT_OFFERED, NO_ROOM, ACTIVE};
-ghost use Rattle.device.specs.Answers.{NOT_DECLARED, NO_RIGHT, ANSWER_NOT_ASKED, MODE_TOO_WIDE, BAD_LENGTH};
+ghost use Rattle.device.specs.Answers.{plain, answering, refusing, done, answered};
 
 // 000's three sets (3.1), kept apart: a suite's number, 0 for no suite; a permission's; a domain's.
-#[derive(Clone, Copy)]
+#[derive(Clone, Copy, PartialEq, Eq)]
 pub struct Suite(pub u16);
 
-#[derive(Clone, Copy)]
+#[derive(Clone, Copy, PartialEq, Eq)]
 pub struct Permission(pub u8);
 
-#[derive(Clone, Copy)]
+#[derive(Clone, Copy, PartialEq, Eq)]
 pub struct Domain(pub u8);
 
 // How long a user's decision holds: for one use, for the session, until the suite is removed.
-#[derive(Clone, Copy)]
+#[derive(Clone, Copy, PartialEq, Eq)]
 pub enum Mode {
     Oneshot,
     Session,
     Blanket,
 }
 
-// Whether a cell has the user asked, and then the highest mode of a consent.
-#[derive(Clone, Copy)]
-pub enum Consent {
-    Unasked,
-    UpTo(Mode),
-}
-
-#[derive(Clone, Copy)]
+// One enum and no `Option`, as document 01 wants it.
+#[derive(Clone, Copy, PartialEq, Eq)]
 pub enum UserAnswer {
     None,
     Allow(Mode),
@@ -43,7 +35,7 @@ pub enum UserAnswer {
 }
 
 // The decision that stands on a permission, for the session or for good.
-#[derive(Clone, Copy)]
+#[derive(Clone, Copy, PartialEq, Eq)]
 pub enum Standing {
     Nothing,
     Granted,
@@ -51,20 +43,20 @@ pub enum Standing {
 }
 
 // Sets of permissions, bit p for permission p.
-#[derive(Clone, Copy)]
+#[derive(Clone, Copy, PartialEq, Eq)]
 pub struct Descriptor {
     pub required: u64,
     pub optional: u64,
 }
 
-#[derive(Clone, Copy)]
+#[derive(Clone, Copy, PartialEq, Eq)]
 pub struct Decisions {
     pub granted: u64,
     pub revoked: u64,
 }
 
 // An installed suite with its blanket decisions, or a free slot.
-#[derive(Clone, Copy)]
+#[derive(Clone, Copy, PartialEq, Eq)]
 pub struct Slot {
     pub suite: Suite,
     pub domain: Domain,
@@ -73,14 +65,14 @@ pub struct Slot {
 }
 
 // The running suite with its session decisions, or nothing.
-#[derive(Clone, Copy)]
+#[derive(Clone, Copy, PartialEq, Eq)]
 pub struct Session {
     pub suite: Suite,
     pub decisions: Decisions,
 }
 
 // The numbers of an event record, in the order of its bytes; `pad` is what no event uses.
-#[derive(Clone, Copy)]
+#[derive(Clone, Copy, PartialEq, Eq)]
 pub struct Fields {
     pub kind: u8,
     pub domain: u8,
@@ -92,8 +84,9 @@ pub struct Fields {
     pub optional: u64,
 }
 
-// 000, Table 1. A record that is no event is an event of its own, which is refused.
-#[derive(Clone, Copy)]
+// 000, Table 1. A record that is no event is an event of its own, which is refused; no `Option`, since `step` and the theorems
+// over all records speak of it.
+#[derive(Clone, Copy, PartialEq, Eq)]
 pub enum Event {
     Unreadable,
     Install(Suite, Descriptor, Domain),
@@ -103,8 +96,37 @@ pub enum Event {
     Request(Permission, UserAnswer),
 }
 
-// The monitor's answer.
-#[derive(Clone, Copy)]
+// The monitor's answer, where it is no refusal; ASK has the cell.
+#[derive(Clone, Copy, PartialEq, Eq)]
+pub enum Answer {
+    Done,
+    Allowed,
+    Denied,
+    Ask(u8),
+}
+
+// Why an event or a call is refused; 23 has the permission, 29 the cell.
+#[derive(Clone, Copy, PartialEq, Eq)]
+pub enum Refusal {
+    BadPolicy,
+    BadState,
+    BadEvent,
+    NoSession,
+    Busy,
+    NotInstalled,
+    Installed,
+    NotOffered(Permission),
+    NoRoom,
+    Active,
+    NotDeclared,
+    NoRight,
+    AnswerNotAsked,
+    ModeTooWide(u8),
+    BadLength,
+}
+
+// An answer or a refusal as a terminal sees it.
+#[derive(Clone, Copy, PartialEq, Eq)]
 pub struct Response {
     pub number: u8,
     pub detail: u8,
@@ -128,6 +150,7 @@ pub fn unconditional(cell: u8) -> bool
     cell == ALLOWING
 }
 
+// Three types, and the suites' bound is from below: one generic function would want an impl for each, with its number and bound.
 impl Suite {
     pub fn in_range(self) -> bool
         ensures { result ≡ is_suite self }
@@ -163,64 +186,68 @@ impl Mode {
 
     pub const BLANKET: u8 = 3;
 
-    pub fn number(self) -> u8
-        ensures { result ≡ width self }
+    // The highest mode of a consent at a cell of the policy, for every byte; none where nobody is asked.
+    #[tactic(auto, unfolding(crate::specs::Cells::highest))]
+    pub fn highest(cell: u8) -> Option<Mode>
+        ensures { result ≡ highest cell }
     {
-        match self {
+        let asks = (Mode::ONESHOT <= cell) & (cell <= Mode::BLANKET);
+        asks.then(|| Mode::from(cell))
+    }
+}
+
+impl From<Mode> for u8 {
+    ghost from_gives = { λ mode number. number ≡ width mode };
+
+    fn from(mode: Mode) -> u8 {
+        match mode {
             Mode::Oneshot => Mode::ONESHOT,
             Mode::Session => Mode::SESSION,
             Mode::Blanket => Mode::BLANKET,
         }
     }
+}
 
-    // The mode with that number; the widest for a number that is none's.
-    pub fn of(number: u8) -> Mode
-        ensures { result ≡ mode_of number }
-    {
-        if number == Mode::ONESHOT {
-            return Mode::Oneshot;
-        }
-        if number == Mode::SESSION {
-            return Mode::Session;
-        }
-        Mode::Blanket
-    }
+// The mode with that number; the widest for a number that is none's.
+impl From<u8> for Mode {
+    ghost from_gives = { λ number mode. mode ≡ mode_of number };
 
-    // The highest mode that a cell of the policy takes, for every byte.
-    pub fn highest(cell: u8) -> Consent
-        ensures { result ≡ highest cell }
-    {
-        let asks = (Mode::ONESHOT <= cell) & (cell <= Mode::BLANKET);
-        if asks {
-            return Consent::UpTo(Mode::of(cell));
+    #[tactic(auto, unfolding(crate::specs::Device::mode_of))]
+    fn from(number: u8) -> Mode {
+        match number {
+            Mode::ONESHOT => Mode::Oneshot,
+            Mode::SESSION => Mode::Session,
+            _ => Mode::Blanket,
         }
-        Consent::Unasked
     }
 }
 
-impl UserAnswer {
-    pub fn number(self) -> u8
-        ensures { result ≡ answer_no self }
-    {
-        match self {
+impl From<UserAnswer> for u8 {
+    ghost from_gives = { λ answer number. number ≡ answer_no answer };
+
+    fn from(answer: UserAnswer) -> u8 {
+        match answer {
             UserAnswer::None => 0,
-            UserAnswer::Allow(m) => m.number(),
-            UserAnswer::Deny(m) => Mode::BLANKET + m.number(),
+            UserAnswer::Allow(mode) => u8::from(mode),
+            UserAnswer::Deny(mode) => Mode::BLANKET + u8::from(mode),
         }
     }
+}
 
-    // The answer with that number, for every byte; none where there is none.
-    pub fn of(number: u8) -> UserAnswer
-        ensures { result ≡ answer_of number }
-    {
+// The answer with that number, for every byte; none where there is none.
+impl From<u8> for UserAnswer {
+    ghost from_gives = { λ number answer. answer ≡ answer_of number };
+
+    #[tactic(auto, unfolding(crate::specs::UserAnswers::answer_of))]
+    fn from(number: u8) -> UserAnswer {
         if number == 0 {
             return UserAnswer::None;
         }
         if number <= Mode::BLANKET {
-            return UserAnswer::Allow(Mode::of(number));
+            return UserAnswer::Allow(Mode::from(number));
         }
         if number <= Mode::BLANKET + Mode::BLANKET {
-            return UserAnswer::Deny(Mode::of(number - Mode::BLANKET));
+            return UserAnswer::Deny(Mode::from(number - Mode::BLANKET));
         }
         UserAnswer::None
     }
@@ -241,18 +268,14 @@ impl Slot {
     pub fn free() -> Slot
         ensures { result ≡ free }
     {
-        let suite = Suite(0);
-        let domain = Domain(0);
-        let descriptor = Descriptor {
-            required: 0,
-            optional: 0,
-        };
-        let decisions = Decisions::none();
         Slot {
-            suite,
-            domain,
-            descriptor,
-            decisions,
+            suite: Suite(0),
+            domain: Domain(0),
+            descriptor: Descriptor {
+                required: 0,
+                optional: 0,
+            },
+            decisions: Decisions::none(),
         }
     }
 }
@@ -267,142 +290,93 @@ impl Session {
     }
 }
 
-// The answers by name; each number stands here once.
 impl Response {
-    const FIRST_REFUSAL: u8 = 16;
-
     fn plain(number: u8) -> Response
         ensures { result ≡ plain number }
     {
         Response { number, detail: 0 }
     }
+}
 
-    pub fn refused(self) -> bool
-        ensures { result ≡ refused self }
-    {
-        Response::FIRST_REFUSAL <= self.number
+// Each number stands here once.
+impl From<Answer> for Response {
+    ghost from_gives = { λ answer response. response ≡ answering answer };
+
+    fn from(answer: Answer) -> Response {
+        match answer {
+            Answer::Done => Response::plain(0),
+            Answer::Allowed => Response::plain(1),
+            Answer::Denied => Response::plain(2),
+            Answer::Ask(cell) => Response {
+                number: 3,
+                detail: cell,
+            },
+        }
     }
+}
 
-    pub fn done() -> Response
-        ensures { result ≡ DONE }
+// The number and the detail apart: the machine code then has no jump by the case.
+impl Refusal {
+    fn number(self) -> u8
+        ensures { result ≡ (refusing self).number }
     {
-        Response::plain(0)
-    }
-
-    pub fn allowed() -> Response
-        ensures { result ≡ ALLOWED }
-    {
-        Response::plain(1)
-    }
-
-    pub fn denied() -> Response
-        ensures { result ≡ DENIED }
-    {
-        Response::plain(2)
-    }
-
-    pub fn ask(cell: u8) -> Response
-        ensures { result ≡ ASK cell }
-    {
-        Response {
-            number: 3,
-            detail: cell,
+        match self {
+            Refusal::BadPolicy => 16,
+            Refusal::BadState => 17,
+            Refusal::BadEvent => 18,
+            Refusal::NoSession => 19,
+            Refusal::Busy => 20,
+            Refusal::NotInstalled => 21,
+            Refusal::Installed => 22,
+            Refusal::NotOffered(_) => 23,
+            Refusal::NoRoom => 24,
+            Refusal::Active => 25,
+            Refusal::NotDeclared => 26,
+            Refusal::NoRight => 27,
+            Refusal::AnswerNotAsked => 28,
+            Refusal::ModeTooWide(_) => 29,
+            Refusal::BadLength => 30,
         }
     }
 
-    pub fn bad_policy() -> Response
-        ensures { result ≡ BAD_POLICY }
+    fn detail(self) -> u8
+        ensures { result ≡ (refusing self).detail }
     {
-        Response::plain(16)
-    }
-
-    pub fn bad_state() -> Response
-        ensures { result ≡ BAD_STATE }
-    {
-        Response::plain(17)
-    }
-
-    pub fn bad_event() -> Response
-        ensures { result ≡ BAD_EVENT }
-    {
-        Response::plain(18)
-    }
-
-    pub fn no_session() -> Response
-        ensures { result ≡ NO_SESSION }
-    {
-        Response::plain(19)
-    }
-
-    pub fn busy() -> Response
-        ensures { result ≡ BUSY }
-    {
-        Response::plain(20)
-    }
-
-    pub fn not_installed() -> Response
-        ensures { result ≡ NOT_INSTALLED }
-    {
-        Response::plain(21)
-    }
-
-    pub fn installed() -> Response
-        ensures { result ≡ INSTALLED }
-    {
-        Response::plain(22)
-    }
-
-    pub fn not_offered(permission: Permission) -> Response
-        ensures { result ≡ NOT_OFFERED permission }
-    {
-        Response {
-            number: 23,
-            detail: permission.0,
+        match self {
+            Refusal::NotOffered(permission) => permission.0,
+            Refusal::ModeTooWide(cell) => cell,
+            _ => 0,
         }
     }
+}
 
-    pub fn no_room() -> Response
-        ensures { result ≡ NO_ROOM }
-    {
-        Response::plain(24)
-    }
+impl From<Refusal> for Response {
+    ghost from_gives = { λ refusal response. response ≡ refusing refusal };
 
-    pub fn active() -> Response
-        ensures { result ≡ ACTIVE }
-    {
-        Response::plain(25)
-    }
-
-    pub fn not_declared() -> Response
-        ensures { result ≡ NOT_DECLARED }
-    {
-        Response::plain(26)
-    }
-
-    pub fn no_right() -> Response
-        ensures { result ≡ NO_RIGHT }
-    {
-        Response::plain(27)
-    }
-
-    pub fn answer_not_asked() -> Response
-        ensures { result ≡ ANSWER_NOT_ASKED }
-    {
-        Response::plain(28)
-    }
-
-    pub fn mode_too_wide(cell: u8) -> Response
-        ensures { result ≡ MODE_TOO_WIDE cell }
-    {
+    fn from(refusal: Refusal) -> Response {
         Response {
-            number: 29,
-            detail: cell,
+            number: refusal.number(),
+            detail: refusal.detail(),
         }
     }
+}
 
-    pub fn bad_length() -> Response
-        ensures { result ≡ BAD_LENGTH }
-    {
-        Response::plain(30)
+impl From<Result<Answer, Refusal>> for Response {
+    ghost from_gives = { λ outcome response. response ≡ answered outcome };
+
+    fn from(outcome: Result<Answer, Refusal>) -> Response {
+        match outcome {
+            Ok(answer) => Response::from(answer),
+            Err(refusal) => Response::from(refusal),
+        }
+    }
+}
+
+// Of a call that has no answer but DONE.
+impl From<Result<(), Refusal>> for Response {
+    ghost from_gives = { λ outcome response. response ≡ done outcome };
+
+    fn from(outcome: Result<(), Refusal>) -> Response {
+        Response::from(outcome.map(|()| Answer::Done))
     }
 }

@@ -3,6 +3,7 @@
 
 ghost use Rattle.std.specs.Prelude.{◌<◌};
 
+use device::{Descriptor, Domain, Event, Mode, Permission, Refusal, Response, Suite, UserAnswer};
 use std::io;
 
 // A record by the low bytes of its fields, the sets empty.
@@ -50,25 +51,20 @@ fn line(rt: &impl Print, label: &str) -> io::Result<()> {
 // 18 for bytes that are no event; 0 for a record that is read and written back the same, and 99 for one that is not.
 fn through(bytes: &[u8]) -> u8 {
     let mut back = [7u8; 24];
-    let written = events::write_event(events::read_event(bytes), &mut back);
-    if written.number == 0 {
-        if bytes == back.as_slice() {
-            return 0;
-        }
-        return 99;
+    match events::write_event(events::read_event(bytes), &mut back) {
+        Err(refusal) => Response::from(refusal).number,
+        Ok(()) if bytes == back.as_slice() => 0,
+        Ok(()) => 99,
     }
-    written.number
 }
 
 // A record with a byte stored at each of its 24 places in turn.
 fn damaged(rt: &impl Print, label: &str, good: [u8; 24], byte: u8) -> io::Result<()> {
     line(rt, label)?;
-    let mut k: usize = 0;
-    while k < 24 {
+    for place in 0..good.len() {
         let mut bad = good;
-        bad[k] = byte;
+        bad[place] = byte;
         print(rt, through(&bad))?;
-        k += 1;
     }
     Ok(())
 }
@@ -84,12 +80,16 @@ fn edge(rt: &impl Print, good: [u8; 24], at: usize, low: u8, high: u8) -> io::Re
     Ok(())
 }
 
+fn response_number(outcome: Result<(), Refusal>) -> u8 {
+    Response::from(outcome).number
+}
+
 // The number of a write into 24 bytes, and of one into 23.
-fn written(rt: &impl Print, event: device::Event) -> io::Result<()> {
+fn written(rt: &impl Print, event: Event) -> io::Result<()> {
     let mut whole = [7u8; 24];
-    print(rt, events::write_event(event, &mut whole).number)?;
+    print(rt, response_number(events::write_event(event, &mut whole)))?;
     let mut short = [7u8; 23];
-    print(rt, events::write_event(event, &mut short).number)?;
+    print(rt, response_number(events::write_event(event, &mut short)))?;
     Ok(())
 }
 
@@ -146,43 +146,34 @@ fn reads(rt: &impl Print) -> io::Result<()> {
 }
 
 fn writes(rt: &impl Print) -> io::Result<()> {
-    let both = device::Descriptor {
+    let both = Descriptor {
         required: 18446744073709551615,
         optional: 1,
     };
-    let no = device::UserAnswer::Deny(device::Mode::Blanket);
+    let no = UserAnswer::Deny(Mode::Blanket);
     line(
         rt,
         "an install of suite 65535 in domain 7, 0 in 7, 1 in 8, into 24 and 23 bytes:",
     )?;
-    written(
-        rt,
-        device::Event::Install(device::Suite(65535), both, device::Domain(7)),
-    )?;
-    written(
-        rt,
-        device::Event::Install(device::Suite(0), both, device::Domain(7)),
-    )?;
-    written(
-        rt,
-        device::Event::Install(device::Suite(1), both, device::Domain(8)),
-    )?;
+    written(rt, Event::Install(Suite(65535), both, Domain(7)))?;
+    written(rt, Event::Install(Suite(0), both, Domain(7)))?;
+    written(rt, Event::Install(Suite(1), both, Domain(8)))?;
     line(
         rt,
         "a remove of 65535, of 0, a start of 1, of 0, into 24 and 23 bytes:",
     )?;
-    written(rt, device::Event::Remove(device::Suite(65535)))?;
-    written(rt, device::Event::Remove(device::Suite(0)))?;
-    written(rt, device::Event::Start(device::Suite(1)))?;
-    written(rt, device::Event::Start(device::Suite(0)))?;
+    written(rt, Event::Remove(Suite(65535)))?;
+    written(rt, Event::Remove(Suite(0)))?;
+    written(rt, Event::Start(Suite(1)))?;
+    written(rt, Event::Start(Suite(0)))?;
     line(
         rt,
         "a request of 63, of 64, a terminate, an unreadable event, into 24 and 23 bytes:",
     )?;
-    written(rt, device::Event::Request(device::Permission(63), no))?;
-    written(rt, device::Event::Request(device::Permission(64), no))?;
-    written(rt, device::Event::Terminate)?;
-    written(rt, device::Event::Unreadable)?;
+    written(rt, Event::Request(Permission(63), no))?;
+    written(rt, Event::Request(Permission(64), no))?;
+    written(rt, Event::Terminate)?;
+    written(rt, Event::Unreadable)?;
     Ok(())
 }
 

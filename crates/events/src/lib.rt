@@ -1,43 +1,42 @@
 // An event record, read and written.
 #![tactic(auto)]
 
-ghost use Rattle.std.specs.Prelude.{◌≡◌, cond, length};
-ghost use Rattle.device.specs.declared.Event.TheVariants.{Unreadable};
-ghost use Rattle.model.specs.Events.{event_size, fields_at, field_bytes, numbers, fields_of, event_of, carried, read_event};
+ghost use Rattle.std.specs.Prelude.{◌≡◌};
+ghost use Rattle.device.specs.Answers.{done};
+ghost use Rattle.model.specs.Events.{fields_at, field_bytes, fields_of, event_of, carried, read_event};
 ghost use Rattle.model.specs.Calls.{reading, read_call, leaving, write_call};
-ghost use Rattle.events.specs.Fields.{same_fields};
+
+use device::{Descriptor, Domain, Event, Fields, Permission, Refusal, Suite, UserAnswer};
+use words::Word;
 
 pub const EVENT_SIZE: usize = 24;
 
-// The event that a record's numbers may say.
-fn event_of(f: device::Fields) -> device::Event
+// The event that a record's numbers may say. No `From`: both types are `device`'s, below the definition.
+#[tactic(auto, unfolding(model::specs::Events::event_of))]
+fn event_of(f: Fields) -> Event
     ensures { result ≡ event_of f }
 {
-    let kind = f.kind;
-    match kind {
+    match f.kind {
         1 => {
-            let descriptor = device::Descriptor {
+            let descriptor = Descriptor {
                 required: f.required,
                 optional: f.optional,
             };
-            device::Event::Install(device::Suite(f.suite), descriptor, device::Domain(f.domain))
+            Event::Install(Suite(f.suite), descriptor, Domain(f.domain))
         }
-        2 => device::Event::Remove(device::Suite(f.suite)),
-        3 => device::Event::Start(device::Suite(f.suite)),
-        4 => device::Event::Terminate,
-        5 => device::Event::Request(
-            device::Permission(f.permission),
-            device::UserAnswer::of(f.answer),
-        ),
-        _ => device::Event::Unreadable,
+        2 => Event::Remove(Suite(f.suite)),
+        3 => Event::Start(Suite(f.suite)),
+        4 => Event::Terminate,
+        5 => Event::Request(Permission(f.permission), UserAnswer::from(f.answer)),
+        _ => Event::Unreadable,
     }
 }
 
 // The numbers of an event's record: what its kind does not use is 0.
-fn fields_of(e: device::Event) -> device::Fields
+fn fields_of(e: Event) -> Fields
     ensures { result ≡ fields_of e }
 {
-    let mut f = device::Fields {
+    let unused = Fields {
         kind: 0,
         domain: 0,
         suite: 0,
@@ -48,155 +47,114 @@ fn fields_of(e: device::Event) -> device::Fields
         optional: 0,
     };
     match e {
-        device::Event::Unreadable => f,
-        device::Event::Install(i, x, d) => {
-            f.kind = 1;
-            f.domain = d.0;
-            f.suite = i.0;
-            f.required = x.required;
-            f.optional = x.optional;
-            f
-        }
-        device::Event::Remove(i) => {
-            f.kind = 2;
-            f.suite = i.0;
-            f
-        }
-        device::Event::Start(i) => {
-            f.kind = 3;
-            f.suite = i.0;
-            f
-        }
-        device::Event::Terminate => {
-            f.kind = 4;
-            f
-        }
-        device::Event::Request(p, u) => {
-            f.kind = 5;
-            f.permission = p.0;
-            f.answer = u.number();
-            f
-        }
+        Event::Unreadable => unused,
+        Event::Install(i, x, d) => Fields {
+            kind: 1,
+            domain: d.0,
+            suite: i.0,
+            required: x.required,
+            optional: x.optional,
+            ..unused
+        },
+        Event::Remove(i) => Fields {
+            kind: 2,
+            suite: i.0,
+            ..unused
+        },
+        Event::Start(i) => Fields {
+            kind: 3,
+            suite: i.0,
+            ..unused
+        },
+        Event::Terminate => Fields { kind: 4, ..unused },
+        Event::Request(p, u) => Fields {
+            kind: 5,
+            permission: p.0,
+            answer: u8::from(u),
+            ..unused
+        },
     }
 }
 
 // A record can carry the event's values; the types bound the sets and the suite from above.
-fn fits(e: device::Event) -> bool
+fn fits(e: Event) -> bool
     ensures { result ≡ carried e }
 {
     match e {
-        device::Event::Unreadable => false,
-        device::Event::Install(i, _, d) => i.in_range() & d.in_range(),
-        device::Event::Remove(i) => i.in_range(),
-        device::Event::Start(i) => i.in_range(),
-        device::Event::Terminate => true,
-        device::Event::Request(p, _) => p.in_range(),
+        Event::Unreadable => false,
+        Event::Install(i, _, d) => i.in_range() & d.in_range(),
+        Event::Remove(i) => i.in_range(),
+        Event::Start(i) => i.in_range(),
+        Event::Terminate => true,
+        Event::Request(p, _) => p.in_range(),
     }
 }
 
-fn same(f: device::Fields, g: device::Fields) -> bool
-    ensures { result ≡ same_fields f g }
-{
-    (f.kind == g.kind)
-        & ((f.domain == g.domain)
-            & ((f.suite == g.suite)
-                & ((f.permission == g.permission)
-                    & ((f.answer == g.answer)
-                        & ((f.pad == g.pad)
-                            & ((f.required == g.required) & (f.optional == g.optional)))))))
-}
-
-fn fields_at(bytes: &[u8]) -> device::Fields
-    requires { length bytes.now ≡ event_size }
+#[tactic(auto, unfolding(model::specs::Events::fields_at))]
+fn fields_at(bytes: &[u8; EVENT_SIZE]) -> Fields
     ensures { result ≡ fields_at bytes.now }
 {
-    device::Fields {
+    Fields {
         kind: bytes[0],
         domain: bytes[1],
-        suite: words::read16(bytes, 2),
+        suite: u16::read(bytes, 2),
         permission: bytes[4],
         answer: bytes[5],
-        pad: words::read16(bytes, 6),
-        required: words::read64(bytes, 8),
-        optional: words::read64(bytes, 16),
+        pad: u16::read(bytes, 6),
+        required: u64::read(bytes, 8),
+        optional: u64::read(bytes, 16),
     }
 }
 
-fn put_fields(bytes: &mut [u8], f: device::Fields)
-    requires { length bytes.old ≡ event_size }
+fn put_fields(bytes: &mut [u8; EVENT_SIZE], f: Fields)
     ensures { bytes.new ≡ field_bytes f }
 {
-    words::write8(bytes, 0, f.kind);
-    words::write8(bytes, 1, f.domain);
-    words::write16(bytes, 2, f.suite);
-    words::write8(bytes, 4, f.permission);
-    words::write8(bytes, 5, f.answer);
-    words::write16(bytes, 6, f.pad);
-    words::write64(bytes, 8, f.required);
-    words::write64(bytes, 16, f.optional);
-}
-
-fn where_good(good: bool, e: device::Event) -> device::Event
-    ensures { result ≡ cond good e Unreadable }
-{
-    if good {
-        return e;
-    }
-    device::Event::Unreadable
+    f.kind.write(bytes, 0);
+    f.domain.write(bytes, 1);
+    f.suite.write(bytes, 2);
+    f.permission.write(bytes, 4);
+    f.answer.write(bytes, 5);
+    f.pad.write(bytes, 6);
+    f.required.write(bytes, 8);
+    f.optional.write(bytes, 16);
 }
 
 // The event of a record; `Unreadable`, which is refusal 18, for every other list of bytes.
-pub fn read_event(bytes: &[u8]) -> device::Event
+pub fn read_event(bytes: &[u8]) -> Event
     ensures { reading result ≡ read_call bytes.now }
 {
-    let sized = bytes.len() == EVENT_SIZE;
-    if !sized {
-        return device::Event::Unreadable;
+    let Some(record) = bytes.as_array() else {
+        return Event::Unreadable;
+    };
+    let numbers = fields_at(record);
+    let event = event_of(numbers);
+    let good = fits(event) & (fields_of(event) == numbers);
+    if !good {
+        return Event::Unreadable;
     }
-    let f = fields_at(bytes);
-    let e = event_of(f);
-    where_good(fits(e) & same(fields_of(e), f), e)
+    event
 }
 
 // The event into 24 lent bytes: 18 for a value that no record carries, then 30 for another size.
-pub fn write_event(event: device::Event, bytes: &mut [u8]) -> device::Response
-    ensures { leaving bytes.new result ≡ write_call event bytes.old }
+#[tactic(auto, unfolding(model::specs::Calls::write_call))]
+pub fn write_event(event: Event, bytes: &mut [u8]) -> Result<(), Refusal>
+    ensures { leaving bytes.new (done result) ≡ write_call event bytes.old }
 {
-    let good = fits(event);
-    if good {
-        let room = bytes.len() == EVENT_SIZE;
-        if room {
-            put_fields(bytes, fields_of(event));
-            return device::Response::done();
-        }
-        return device::Response::bad_length();
+    if !fits(event) {
+        return Err(Refusal::BadEvent);
     }
-    device::Response::bad_event()
+    let Some(record) = bytes.as_mut_array() else {
+        return Err(Refusal::BadLength);
+    };
+    put_fields(record, fields_of(event));
+    Ok(())
 }
 
 // The event whose record has these numbers; `Unreadable` where no record has.
-pub fn event_with(
-    kind: u8,
-    domain: u8,
-    suite: u16,
-    permission: u8,
-    answer: u8,
-    required: u64,
-    optional: u64,
-) -> device::Event
-    ensures { result ≡ read_event (field_bytes (numbers kind domain suite permission answer required optional)) }
+pub fn event_with(numbers: Fields) -> Event
+    ensures { result ≡ read_event (field_bytes numbers) }
 {
-    let f = device::Fields {
-        kind: kind,
-        domain: domain,
-        suite: suite,
-        permission: permission,
-        answer: answer,
-        pad: 0,
-        required: required,
-        optional: optional,
-    };
-    let mut bytes = [0u8; EVENT_SIZE];
-    put_fields(&mut bytes, f);
-    read_event(&bytes)
+    let mut record = [0u8; EVENT_SIZE];
+    put_fields(&mut record, numbers);
+    read_event(&record)
 }

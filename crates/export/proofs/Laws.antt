@@ -1,4 +1,4 @@
--- From the monitor's contracts to the boundary's. Assumes nothing.
+-- From the monitor's contracts to the boundary's: laws that docs/PORT.md names. Assumes nothing.
 use Prim.Native.Nat.{ℕ}
 use mathlib.Core.Path.{◌≡◌, ap, ap₂, ◌∙◌}
 use mathlib.Core.List.{List}

@@ -1,12 +1,13 @@
 -- 01, Calls offered: from the lists of the lent bytes to the answer, the count and the lists afterwards. A refusal leaves every
 -- list as it was.
-use Rattle.std.specs.Prelude.{ℕ, zero, suc, ◌*◌, ◌/◌, ◌%◌, Bool, not, ◌&&◌, cond, List, [], ◌∷◌, map, length, take, drop, replicate, eqb}
+use Rattle.std.specs.Prelude.{ℕ, zero, suc, ◌*◌, ◌/◌, ◌%◌, Bool, not, ◌&&◌, cond, List, [], ◌∷◌, map, length, take, drop, replicate, eqb, Result, Ok, Err}
 use Rattle.device.specs.declared.Suite.{Suite}
 use Rattle.device.specs.declared.Event.{Event}
 use Rattle.device.specs.declared.Event.TheVariants.{Unreadable, Install, Remove, Start, Terminate, Request}
+use Rattle.device.specs.declared.Refusal.{Refusal}
 use Rattle.device.specs.declared.Response.{Response}
 use Rattle.device.specs.Device.{is_suite}
-use Rattle.device.specs.Answers.{refused, DONE, BAD_POLICY, BAD_STATE, BAD_EVENT, NOT_INSTALLED, BAD_LENGTH}
+use Rattle.device.specs.Answers.{refused, refusing, DONE, BAD_POLICY, BAD_STATE, BAD_EVENT, NOT_INSTALLED, BAD_LENGTH}
 use Rattle.model.specs.Policy.{fixed_by, policy_valid}
 use Rattle.model.specs.State.{carries, place, read_state, write_state, record_size, state_size}
 use Rattle.model.specs.Valid.{state_valid}
@@ -84,6 +85,11 @@ pub record Ran : Type 0 where
 
 abbrev pub counted : Response → (count : ℕ) → (state output : List ℕ) → Ran
 counted response count state output = record { response = response; count = count; state = state; output = output }
+
+-- a run that is done and the number of its events, or its refusal
+abbrev pub ran : Result ℕ Refusal → (state output : List ℕ) → Ran
+ran (Ok count) state output = counted DONE count state output
+ran (Err refusal) state output = counted (refusing refusal) 0 state output
 
 -- record i of the events, and n records from the i-th
 abbrev pub record_at : List ℕ → ℕ → List ℕ

@@ -1,5 +1,5 @@
 -- What a checked state and a record that is read give to a step, and a step and a run by their tests. Assumes nothing.
-use mathlib.Core.Path.{◌≡◌, refl, sym}
+use mathlib.Core.Path.{◌≡◌, refl, sym, ap}
 use mathlib.Core.Bool.{true, false}
 use mathlib.Core.List.{List}
 use Prim.Native.Nat.{ℕ, ◌*◌, ◌/◌, ◌%◌, ◌<◌}
@@ -8,13 +8,15 @@ use lib.Dec.{eqb}
 use borrow.Author.Tests.{eqb-true}
 use Rattle.device.specs.declared.Event.{Event}
 use Rattle.device.specs.declared.Event.TheVariants.{Unreadable, Install, Remove, Start, Terminate, Request}
+use Rattle.device.specs.declared.Refusal.{Refusal}
 use Rattle.device.specs.declared.Response.{Response}
 use Rattle.model.specs.Policy.{fixed_by}
-use Rattle.model.specs.State.{read_state}
+use Rattle.model.specs.State.{state_size, read_state}
 use Rattle.model.specs.Events.{carried, read_event}
-use Rattle.device.specs.Answers.{refused, DONE, BAD_LENGTH}
+use Rattle.device.specs.Answers.{refused, refusing, DONE, BAD_LENGTH}
+use Rattle.device.proofs.Responses.{refusal_refused}
 use Rattle.model.specs.Step.{step}
-use Rattle.model.specs.Calls.{leaving, check_call, step_call, events_from, sizes_fit, run_call, counted}
+use Rattle.model.specs.Calls.{reading, read_call, leaving, check_call, step_call, events_from, sizes_fit, run_call, counted}
 use Rattle.model.proofs.Tests.{both}
 use Rattle.model.proofs.RoundTrip.{read_event_lem}
 use Rattle.model.proofs.Calls.{passed}
@@ -34,6 +36,9 @@ read_named b = read_event_lem (λ e. named e ≡ true) b refl event
     event (Start i) h = refl
     event Terminate h = refl
     event (Request p u) h = h
+
+pub named_read : (b : List ℕ) (event : Event) → reading event ≡ read_call b → named event ≡ true
+named_read b event e = rw (ap (λ r. r.event) e) (read_named b)
 
 -- checked bytes hold a state
 pub checked_formed : (policy b : List ℕ) → ((k : ℕ) → get_or b k 0 < 256) → refused (check_call policy b) ≡ false → WellFormed b
@@ -73,3 +78,40 @@ module _ (policy b es out : List ℕ) where
         → counted DONE (length es / 24) exit written ≡ run_call policy b es out
     unfolding run_call
     run_through h t = sym (rw (good, h, ← t.state.written, ← t.output))
+
+-- ---- the same from what `check` answers: DONE
+
+module _ (policy b : List ℕ) (good : DONE ≡ check_call policy b) where
+  passes : refused (check_call policy b) ≡ false
+  passes = rw (← good)
+
+  pub done_size : length b ≡ state_size
+  done_size = (passed policy b passes).sized
+
+  pub done_formed : ((k : ℕ) → get_or b k 0 < 256) → WellFormed b
+  done_formed bytes = checked_formed policy b bytes passes
+
+  pub done_step : (e : List ℕ) {event : Event} {exit : List ℕ} {r : Response} → reading event ≡ read_call e
+      → Did (step (fixed_by policy) (read_state b) event) exit r → leaving exit r ≡ step_call policy b e
+  done_step e read did = step_taken policy b e passes (rw (ap (λ r. r.event) read) at did)
+
+  module _ (es out : List ℕ) where
+    pub done_uneven : sizes_fit es out ≡ false → counted BAD_LENGTH 0 b out ≡ run_call policy b es out
+    done_uneven = run_uneven policy b es out passes
+
+    pub done_run : sizes_fit es out ≡ true → {exit written : List ℕ}
+        → RanThrough (fixed_by policy) (read_state b) (events_from es (length es / 24) 0) exit written
+        → counted DONE (length es / 24) exit written ≡ run_call policy b es out
+    done_run = run_through policy b es out passes
+
+-- ---- or a refusal
+
+module _ (policy b : List ℕ) (refusal : Refusal) (bad : refusing refusal ≡ check_call policy b) where
+  fails : refused (check_call policy b) ≡ true
+  fails = rw (← bad) (refusal_refused refusal)
+
+  pub step_fails : (e : List ℕ) → leaving b (refusing refusal) ≡ step_call policy b e
+  step_fails e = rw bad (step_refused policy b e fails)
+
+  pub run_fails : (es out : List ℕ) → counted (refusing refusal) 0 b out ≡ run_call policy b es out
+  run_fails es out = rw bad (run_refused policy b es out fails)

@@ -1,6 +1,6 @@
 -- A run's loop: after i turns the bytes hold the state after i events, and the output has their answers. Assumes nothing.
 use mathlib.Core.Path.{◌≡◌, refl, ap, sym, ◌∙◌}
-use mathlib.Core.Bool.{false≢true}
+use Rattle.std.specs.Prelude.{Option, None}
 use mathlib.Core.List.{List, [], ◌∷◌, ◌++◌, append-nil, append_assoc}
 use Prim.Native.Nat.{ℕ, zero, suc, ◌+◌, ◌*◌, ◌≤◌}
 use native.Mathlib.Nat.{add-zero, zero-add}
@@ -58,7 +58,7 @@ output_append (r ∷ a) b = ap (λ l. r.number ∷ r.detail ∷ l) (output_appen
 -- ---- the loop
 
 -- after i turns
-pub record Going (f : Fixed) (s : State) (es lent : List ℕ) (i : ℕ) (b out : List ℕ) (at : ℕ) : Type 0 where
+pub record Going (f : Fixed) (s : State) (es lent : List ℕ) (i : ℕ) (b out : List ℕ) (at : Option ℕ) : Type 0 where
   pub state : Holds b (after f s (events_from es i 0))
   pub output : out ≡ output_of (responses f s (events_from es i 0)) ++ drop (2 * i) lent
   pub sized : length out ≡ length lent
@@ -96,7 +96,7 @@ module _ (f : Fixed) (s : State) (es lent : List ℕ) where
         let e : 2 * i + 2 ≡ 2 * (i + 1) = omega arith in
         sets-eq (n ∷ d ∷ []) (drop (2 * i) lent) 0 (rw length-drop (omega arith)) ∙ rw (drop-drop 2 (2 * i) lent, e)
 
-    module _ {b out b' out' : List ℕ} {at at' : ℕ} (g : Going f s es lent i b out at) (l : 2 * i + 2 ≤ length lent) where
+    module _ {b out b' out' : List ℕ} {at at' : Option ℕ} (g : Going f s es lent i b out at) (l : 2 * i + 2 ≤ length lent) where
       pub going_on : Turned f (read_state b) (event_at es i) i out b' out' at' → Going f s es lent (i + 1) b' out' at'
       unfolding answers
       going_on t =
@@ -115,11 +115,14 @@ module _ (f : Fixed) (s : State) (es lent : List ℕ) where
             place = rw (t.place, t.state.read) (place_known f (read_state b) (event_at es i));
           }
 
-  pub going_first : {b : List ℕ} → Holds b s → Going f s es lent 0 b lent 32
+  pub going_from : {b : List ℕ} {at : Option ℕ} → Holds b s → Knows (read_state b) at → Going f s es lent 0 b lent at
   unfolding records_from after responses output_of
-  going_first h = record { state = h; output = refl; sized = refl; place = λ t. absurd (false≢true t) }
+  going_from h known = record { state = h; output = refl; sized = refl; place = known }
 
-  pub gone_through : {n : ℕ} {b out : List ℕ} {at : ℕ} → Going f s es lent n b out at → length lent ≡ 2 * n
+  pub going_first : {b : List ℕ} → Holds b s → Going f s es lent 0 b lent None
+  going_first h = going_from h tt
+
+  pub gone_through : {n : ℕ} {b out : List ℕ} {at : Option ℕ} → Going f s es lent n b out at → length lent ≡ 2 * n
       → RanThrough f s (events_from es n 0) b out
   gone_through {n} g e = record {
     state = g.state;

@@ -5,10 +5,9 @@ use mathlib.Core.Path.{◌≡◌, refl, sym, ap, ◌∙◌, subst⁻¹}
 use mathlib.Core.Logic.{◌⊎◌, inl, inr}
 use mathlib.Core.Bool.{Bool, true, false, false≢true, true≢false}
 use borrow.Author.Tests.{eqb-true, leb-true, le-leb, lt-leb}
+use Rattle.std.specs.Prelude.{Option, Some, None}
 use Rattle.device.specs.declared.Mode.{Mode}
 use Rattle.device.specs.declared.Mode.TheVariants.{Oneshot as oneshot, Session as session, Blanket as blanket}
-use Rattle.device.specs.declared.Consent.{Consent}
-use Rattle.device.specs.declared.Consent.TheVariants.{Unasked, UpTo}
 use Rattle.device.specs.Device.{width, mode_of}
 use Rattle.model.specs.Policy.{Fixed}
 use Rattle.device.specs.Cells.{offered, unconditional, highest, up_to, admits}
@@ -18,19 +17,19 @@ use Rattle.paper.specs.Refinement.{policy_of}
 
 -- the policy has a mode
 abbrev pub Asking : ℕ → Type 0
-Asking c = (m : Mode) × (highest c ≡ UpTo m)
+Asking c = (m : Mode) × (highest c ≡ Some m)
 
-abbrev some_mode : Consent → Bool
-some_mode Unasked = false
-some_mode (UpTo m) = true
+abbrev some_mode : Option Mode → Bool
+some_mode None = false
+some_mode (Some m) = true
 
-abbrev mode : Consent → Mode
-mode Unasked = oneshot
-mode (UpTo m) = m
+abbrev mode : Option Mode → Mode
+mode None = oneshot
+mode (Some m) = m
 
 -- ---- a cell that has the user asked
 
-cell_width : (c : ℕ) (m : Mode) → highest c ≡ UpTo m → c ≡ width m
+cell_width : (c : ℕ) (m : Mode) → highest c ≡ Some m → c ≡ width m
 unfolding highest mode_of
 cell_width zero m h = absurd (false≢true (ap some_mode h))
 cell_width (suc zero) m h = ap (λ t. width (mode t)) h
@@ -60,12 +59,12 @@ module _ (c : ℕ) where
   asked_once = by_width (λ c. admits c oneshot ≡ true) refl refl refl
 
   -- a mode that it admits, in the paper's words
-  pub admitted : (m : Mode) → admits c m ≡ true → (h : Mode) × (highest c ≡ UpTo h) × (width m ≤ width h)
+  pub admitted : (m : Mode) → admits c m ≡ true → (h : Mode) × (highest c ≡ Some h) × (width m ≤ width h)
   admitted m = go (highest c) refl
     where
-      go : (t : Consent) → highest c ≡ t → up_to t m ≡ true → (h : Mode) × (highest c ≡ UpTo h) × (width m ≤ width h)
-      go Unasked e k = absurd (false≢true k)
-      go (UpTo h) e k = (h, e, leb-true (width m) (width h) k)
+      go : (t : Option Mode) → highest c ≡ t → up_to t m ≡ true → (h : Mode) × (highest c ≡ Some h) × (width m ≤ width h)
+      go None e k = absurd (false≢true k)
+      go (Some h) e k = (h, e, leb-true (width m) (width h) k)
 
   pub asks : (m : Mode) → admits c m ≡ true → Asking c
   asks m k = let (h, e, _) = admitted m k in (h, e)

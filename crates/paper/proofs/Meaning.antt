@@ -6,11 +6,11 @@ use mathlib.Core.List.{[]}
 use mathlib.Core.Option.{some}
 use mathlib.Core.Bool.{true, false, or-true}
 use borrow.Author.Tests.{ltb-true}
+use Rattle.std.specs.Prelude.{Some}
 use Rattle.device.specs.declared.Suite.{Suite}
 use Rattle.device.specs.declared.Permission.{Permission}
 use Rattle.device.specs.declared.Mode.{Mode}
 use Rattle.device.specs.declared.Mode.TheVariants.{Oneshot as oneshot, Session as session, Blanket as blanket}
-use Rattle.device.specs.declared.Consent.TheVariants.{UpTo}
 use Rattle.device.specs.declared.Slot.{Slot}
 use Rattle.device.specs.Device.{is_permission, is_suite, is_domain, is_set, no_suite, same_suite, has}
 use Rattle.model.specs.Policy.{Fixed}
@@ -33,8 +33,8 @@ use Rattle.paper.proofs.Running.{Running, there, my_suite, for_me}
 use Rattle.paper.proofs.Simulation.{refined}
 
 -- a cell that takes a blanket consent
-blanket_mode : (c : ℕ) → admits c blanket ≡ true → highest c ≡ UpTo blanket
-blanket_mode c k = let (m, e, le) = admitted c blanket k in e ∙ ap UpTo (widest m le)
+blanket_mode : (c : ℕ) → admits c blanket ≡ true → highest c ≡ Some blanket
+blanket_mode c k = let (m, e, le) = admitted c blanket k in e ∙ ap Some (widest m le)
 
 -- a slot that is sound
 sound_offers : (f : Fixed) (x : Slot) → same_suite x.suite no_suite ≡ false → slot_sound f x ≡ true

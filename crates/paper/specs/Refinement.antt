@@ -1,10 +1,9 @@
 -- Document 000, 5: the monitor's `step` in the place of the paper's interp (38), and the simulation condition (39).
-use Rattle.std.specs.Prelude.{ℕ, ◌≡◌, ◌≢◌, true, false, ◌&&◌, cond, List, [], ◌∷◌, eqb}
+use Rattle.std.specs.Prelude.{ℕ, ◌≡◌, ◌≢◌, true, false, ◌&&◌, cond, List, [], ◌∷◌, eqb, Some}
 use Rattle.std.proofs.Math.Option.{Option, none, some}
 use Rattle.device.specs.declared.Suite.{Suite}
 use Rattle.device.specs.declared.Permission.{Permission}
 use Rattle.device.specs.declared.Domain.{Domain}
-use Rattle.device.specs.declared.Consent.TheVariants.{UpTo}
 use Rattle.device.specs.declared.UserAnswer.{UserAnswer}
 use Rattle.device.specs.declared.UserAnswer.TheVariants.{None, Allow, Deny}
 use Rattle.device.specs.declared.Descriptor.{Descriptor}
@@ -34,7 +33,7 @@ In set permission = (is_permission permission && has set permission) ≡ true
 abbrev pub policy_of : Fixed → Published.Policy
 policy_of fixed = record {
   allow = λ d p. unconditional (fixed.cell d p) ≡ true;
-  user = λ d p m. highest (fixed.cell d p) ≡ UpTo m;
+  user = λ d p m. highest (fixed.cell d p) ≡ Some m;
 }
 
 abbrev pub descriptor_of : Descriptor → Published.Descriptor

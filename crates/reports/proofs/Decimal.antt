@@ -1,16 +1,15 @@
--- A number in decimal digits: by its tenth, by the fewest digits that hold it, and its length. Assumes nothing.
-use mathlib.Core.Path.{◌≡◌, refl, ◌∙◌}
+-- A number in decimal digits: by its tenth, as the library has them, and of one with four. Assumes nothing.
+use mathlib.Core.Path.{◌≡◌, refl, sym}
 use mathlib.Core.Bool.{Bool, true, false, cond}
-use mathlib.Core.List.{List, [], ◌∷◌, ◌++◌}
+use mathlib.Core.List.{[], ◌∷◌, ◌++◌}
 use Prim.Native.Nat.{ℕ, zero, suc, ◌+◌, ◌/◌, ◌%◌, ◌^◌, ◌≤◌, ◌<◌}
-use native.Mathlib.Nat.{pow-succ', one-le-pow}
-use native.Mathlib.Numerals.{sub-one}
+use native.Mathlib.Nat.{pow-succ'}
 use native.Mathlib.Omega.{arith}
 use lib.ListN.{length, length-append}
 use lib.Dec.{ltb}
 use borrow.Author.Tests.{lt-ltb, le-ltb, ltb-true, ltb-false}
-use Rattle.io.specs.Digits.{IsDigitCount}
-use Rattle.io.specs.Digits.{last_digits as spelling}
+use Rattle.std.specs.Fmt.{decimal as printed}
+use Rattle.std.proofs.lemmas.Fmt.{decimal_by_steps, length-decimal-le}
 use Rattle.reports.specs.Text.{digits, decimal}
 
 -- any bound above n gives its digits
@@ -35,24 +34,12 @@ pub more_digits : (n : ℕ) → 10 ≤ n → decimal n ≡ decimal (n / 10) ++ (
 unfolding decimal digits
 more_digits n h = rw (le-ltb n 10, enough n (suc (n / 10)) (n / 10) (omega arith) (omega arith))
 
--- the fewest digits that hold a number
-spelled : (k n : ℕ) → IsDigitCount 10 1 n k → spelling 10 k n ≡ decimal n
-spelled zero n (some, _, _) = absurd (omega arith)
-spelled (suc zero) n (_, most, _) =
-    let h : n < 10 = omega arith in
-    let e : n % 10 ≡ n = omega arith in
-    rw (one_digit n h, e, lt-ltb n 10)
-spelled (suc (suc k)) n (_, most, least) =
-    let low : 10 ^ suc k ≤ n = simp sub-one at (least (omega arith)) in
-    let p = pow-succ' 10 k in
-    let q = pow-succ' 10 (suc k) in
-    let one = one-le-pow k 10 (omega arith) in
-    let last : n % 10 < 10 = omega arith in
-    let tenth = spelled (suc k) (n / 10) (omega arith, omega arith, λ t. simp sub-one (omega arith)) in
-    rw (more_digits n (omega arith), lt-ltb (n % 10) 10, tenth)
+-- the digits that the library prints
+pub own_decimal : (n : ℕ) → n < 2 ^ 64 → printed n ≡ decimal n
+own_decimal = decimal_by_steps (λ n ds. ds ≡ decimal n) (λ n h. sym (one_digit n h)) (λ n ds h e. rw (more_digits n h, e))
 
-pub spells : {text : List ℕ} (k n : ℕ) → IsDigitCount 10 1 n k → text ≡ spelling 10 k n → text ≡ decimal n
-spells k n fewest e = e ∙ spelled k n fewest
+pub four_digits : (n : ℕ) → n < 10000 → length (printed n) ≤ 4
+four_digits n h = length-decimal-le 4 n (omega arith) (omega arith) (omega arith)
 
 -- a number below 10 to the k has at most k digits
 pub length-decimal : (k n : ℕ) → n < 10 ^ suc k → length (decimal n) ≤ suc k

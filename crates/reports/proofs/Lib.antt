@@ -1,5 +1,5 @@
-pub mod Parts
 pub mod Decimal
 pub mod Texts
 pub mod Reports
+pub mod Parts
 pub mod Claims

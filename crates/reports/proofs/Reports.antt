@@ -6,6 +6,7 @@ use Prim.Native.Nat.{ℕ, ◌*◌, ◌/◌, ◌%◌, ◌≤◌, ◌<◌}
 use native.Mathlib.Omega.{arith}
 use lib.ListN.{length, take, replicate, length-replicate}
 use lib.Seq.{length-take-le, take_all}
+use Rattle.reports.proofs.Parts.{take_zeros}
 use lib.Dec.{eqb, ltb, leb}
 use borrow.Author.Tests.{eq-eqb, ne_eqb, eqb-true, lt-ltb, le-ltb, ltb-true, ltb-false, leb-true, leb-false, not-false}
 use Rattle.device.specs.declared.Response.{Response}
@@ -164,6 +165,19 @@ module _ (policy events : List ℕ) {lent : List ℕ} (zeros : lent ≡ replicat
 
   pub taken_text : text_of r n output ≡ report_text policy events
   taken_text = ap text_in ran ∙ rw zeros (run_text policy events)
+
+-- the same of a run that is lent as many of the zeros as there is room for
+module _ (policy events : List ℕ) {room : ℕ} (is_room : room ≡ room_for (length events / event_size))
+    {r : Response} {n : ℕ} {state output : List ℕ}
+    (ran : counted r n state output ≡ run_call policy new_state events (take room (replicate (answer_size * most_events) 0))) where
+  zeros : take {A = ℕ} room (replicate (answer_size * most_events) 0) ≡ replicate (room_for (length events / event_size)) 0
+  zeros = take_zeros (answer_size * most_events) (room_fits _ is_room) is_room
+
+  pub lent_fits : (n ≤ most_events) × (answer_size * n ≤ length (take room (replicate {A = ℕ} (answer_size * most_events) 0)))
+  lent_fits = taken_fits policy events zeros ran
+
+  pub lent_text : text_of r n output ≡ report_text policy events
+  lent_text = taken_text policy events zeros ran
 
 -- ---- a part of each file is enough
 

@@ -1,21 +1,23 @@
--- A text by its cases, its length, and the text in lent bytes. Assumes nothing.
-use mathlib.Core.Path.{◌≡◌, sym, ap, ◌∙◌}
+-- A text by its cases, its lines, and the text in lent bytes. Assumes nothing.
+use mathlib.Core.Path.{◌≡◌, refl, sym, ap, ◌∙◌}
 use mathlib.Core.Bool.{true, false}
-use mathlib.Core.List.{List, ◌++◌}
-use Prim.Native.Nat.{ℕ, zero, suc, ◌+◌, ◌-◌, ◌*◌, ◌≤◌, ◌<◌}
-use native.Mathlib.Nat.{zero-add, suc-add}
+use mathlib.Core.List.{List, [], ◌++◌}
+use Prim.Native.Nat.{ℕ, zero, suc, ◌+◌, ◌*◌, ◌/◌, ◌≤◌, ◌<◌}
 use native.Mathlib.Omega.{arith}
-use lib.ListN.{length, get_or, length-append}
-use lib.Seq.{sets-eq, length-take-le}
+use lib.ListN.{length, get_or, take, drop, replicate, length-append, length-replicate}
+use lib.Seq.{length-take-le, take-append_seam}
 use lib.Dec.{ltb}
 use borrow.Author.Tests.{lt-ltb, le-ltb}
+use Rattle.std.specs.Prelude.{Option}
+use Rattle.std.specs.Simd.{first_chunks}
+use Rattle.std.specs.Io.KnownBytes.{Appends}
+use Rattle.std.proofs.lemmas.List.{get_or-take, get_or-drop}
 use Rattle.device.specs.declared.Response.{Response}
 use Rattle.device.specs.Answers.{refused}
 use Rattle.model.proofs.Tests.{cases}
-use Rattle.reports.specs.Text.{ascii, line, lines, closing, text_of, report_text, most_events, text_size}
+use Rattle.reports.specs.Text.{ascii, line, lines, closing, text_of, report_text, text_size}
 use Rattle.reports.specs.Text.{Made, made, text_call}
-use Rattle.reports.specs.Steps.{Puts, policy_read, events_read, OfFiles}
-use Rattle.reports.proofs.Decimal.{length-decimal}
+use Rattle.reports.specs.Steps.{policy_read, events_read, TextOfFiles, OfFiles, Printed, Wrote}
 
 -- ---- refused, or whole
 
@@ -28,55 +30,38 @@ module _ (r : Response) (count : ℕ) (answers : List ℕ) where
   unfolding text_of
   whole_text h = sym (rw h)
 
--- ---- its length
+-- ---- its lines
 
--- more events have no shorter lines
-lines_grow : (more n : ℕ) (answers : List ℕ) → length (lines n answers) ≤ length (lines (more + n) answers)
-unfolding lines
-lines_grow zero n answers = rw zero-add (omega arith)
-lines_grow (suc more) n answers = rw (suc-add, length-append) (let h = lines_grow more n answers in omega arith)
+-- the first k pairs, and their bytes
+length-pairs : (k : ℕ) (bytes : List ℕ) → length (first_chunks 2 k bytes) ≡ k
+length-pairs zero bytes = refl
+length-pairs (suc k) bytes = ap (λ n. suc n) (length-pairs k (drop 2 bytes))
 
--- where the lines of all events have room, the next has
-pub next_line : (i count : ℕ) (answers : List ℕ) {size : ℕ} → i < count → 0 + length (lines count answers) ≤ size
-    → 0 + length (lines i answers ++ line i (get_or answers (2 * i) 0) (get_or answers (2 * i + 1) 0)) ≤ size
-unfolding lines
-next_line i count answers h room =
-    let e : count ≡ (count - suc i) + suc i = omega arith in
-    let g = lines_grow (count - suc i) (suc i) answers in
-    omega (arith, ap (λ n. length (lines n answers)) e)
+in_pair : (k i j at : ℕ) (bytes : List ℕ) → i < k → j < 2 → 2 * i + j ≡ at
+    → get_or (get_or (first_chunks 2 k bytes) i []) j 0 ≡ get_or bytes at 0
+in_pair zero i j at bytes h l e = absurd (omega arith)
+in_pair (suc k) zero j at bytes h l e = get_or-take 2 bytes j 0 l ∙ ap (λ n. get_or bytes n 0) (omega arith)
+in_pair (suc k) (suc i) j at bytes h l e =
+    in_pair k i j (2 * i + j) (drop 2 bytes) (omega arith) l refl
+    ∙ get_or-drop 2 bytes (2 * i + j) 0 ∙ ap (λ n. get_or bytes n 0) (omega arith)
 
-length-line : (index number detail : ℕ) → index < 10000 → number < 1000 → detail < 1000
-    → length (line index number detail) ≤ 13
-unfolding line ascii
-length-line index number detail i n d =
-    let a = length-decimal 3 index i in
-    let b = length-decimal 2 number n in
-    let c = length-decimal 2 detail d in
-    simp length-append (omega arith)
+module _ (count : ℕ) (answers : List ℕ) (room : 2 * count ≤ length answers) {pairs : List (List ℕ)}
+    (cut : pairs ≡ first_chunks 2 (length (take (2 * count) answers) / 2) (take (2 * count) answers)) where
+  pub counted_pairs : length pairs ≡ count
+  counted_pairs = rw (cut, length-pairs, length-take-le) (omega arith)
 
-module _ (answers : List ℕ) (bytes : (k : ℕ) → get_or answers k 0 < 256) where
-  length-lines : (n : ℕ) → n ≤ 10000 → length (lines n answers) ≤ 13 * n
+  -- a line from its pair
+  pub line_more : (i : ℕ) → i < count → lines (suc i) answers
+      ≡ lines i answers ++ line i (get_or (get_or pairs i []) 0 0) (get_or (get_or pairs i []) 1 0)
   unfolding lines
-  length-lines zero h = omega arith
-  length-lines (suc n) h =
-      let a = bytes (2 * n) in
-      let b = bytes (2 * n + 1) in
-      let l = length-lines n (omega arith) in
-      let m = length-line n (get_or answers (2 * n) 0) (get_or answers (2 * n + 1) 0) (omega arith) (omega arith) (omega arith) in
-      rw length-append (omega arith)
-
-  pub whole_room : (count : ℕ) {size : ℕ} → count ≤ most_events → text_size ≤ size
-      → 0 + length (lines count answers ++ closing (ascii "end ") count) ≤ size
-  unfolding closing ascii
-  whole_room count h room =
-      let l = length-lines count (omega arith) in
-      let d = length-decimal 3 count (omega arith) in
-      simp length-append (omega arith)
-
-pub refusal_room : (number : ℕ) {size : ℕ} → number < 256 → text_size ≤ size
-    → 0 + length (closing (ascii "refused ") number) ≤ size
-unfolding closing ascii
-refusal_room number h room = let d = length-decimal 2 number (omega arith) in simp length-append (omega arith)
+  line_more i h = rw (cut, byte 0 (2 * i) (omega arith) (omega arith), byte 1 (2 * i + 1) (omega arith) (omega arith))
+    where
+      byte : (j at : ℕ) → j < 2 → 2 * i + j ≡ at
+          → get_or (get_or (first_chunks 2 (length (take (2 * count) answers) / 2) (take (2 * count) answers)) i []) j 0
+          ≡ get_or answers at 0
+      byte j at l e =
+          in_pair _ i j at (take (2 * count) answers) (rw length-take-le (omega arith)) l e
+          ∙ get_or-take (2 * count) answers at 0 (omega arith)
 
 -- ---- in lent bytes
 
@@ -84,12 +69,10 @@ pub text_small : (policy events before : List ℕ) → length before < text_size
 unfolding text_call
 text_small policy events before h = sym (rw (lt-ltb (length before) text_size))
 
-pub text_made : (policy events : List ℕ) {before after : List ℕ} {next : ℕ} → text_size ≤ length before
-    → Puts (report_text policy events) before 0 after next → made next after ≡ text_call policy events before
+pub text_placed : (policy events before : List ℕ) {text : List ℕ} → text ≡ report_text policy events → text_size ≤ length before
+    → made (length text) (text ++ drop (length text) before) ≡ text_call policy events before
 unfolding text_call
-text_made policy events {before} room puts =
-    let e = sets-eq (report_text policy events) before 0 puts.room in
-    rw (le-ltb (length before) text_size room, puts.stored, puts.behind, e, zero-add)
+text_placed policy events before e room = rw (e, le-ltb (length before) text_size room)
 
 -- two outcomes that fit the contract are equal
 pub text_unique : {call : Made} {size size' : ℕ} {lent lent' : List ℕ} → made size lent ≡ call → made size' lent' ≡ call
@@ -117,3 +100,29 @@ of_files policy events before {after} {size} e p q =
       counts = (h, sym (length-take-le size after h));
       text = e;
     }
+
+-- ---- printed: the text stands in a lent buffer of that size, too
+
+module _ {text : List ℕ} (t : TextOfFiles text) where
+  abbrev before : List ℕ
+  before = replicate text_size 0
+
+  abbrev lent : List ℕ
+  lent = text ++ drop (length text) before
+
+  in_lent : OfFiles before lent (length text)
+  in_lent =
+      let room : text_size ≤ length before = rw length-replicate (omega arith) in
+      of_files t.policy t.events before (text_placed t.policy t.events before t.reported room) t.policy_within t.events_within
+
+  pub printed : Printed (length text)
+  printed = record { before = before; lent = lent; of_files = in_lent }
+
+  pub wrote : {held holds : Option (List ℕ)} → Appends held holds text → Wrote held holds (length text)
+  wrote {held} {holds} h = record {
+    before = before;
+    lent = lent;
+    room = length-replicate {A = ℕ} text_size 0;
+    of_files = in_lent;
+    sent = rw take-append_seam h;
+  }

@@ -6,7 +6,7 @@ use Rattle.io.specs.Counts.{IsPrefixLen}
 use Rattle.model.specs.Policy.{policy_size}
 use Rattle.model.specs.Events.{event_size}
 use Rattle.model.specs.Calls.{answer_size}
-use Rattle.reports.specs.Text.{most_events, text_size, made, text_call}
+use Rattle.reports.specs.Text.{most_events, report_text, text_size, made, text_call}
 
 -- a part of the text has room in the lent bytes from a place on
 abbrev pub Room : (part lent : List ℕ) (at : ℕ) → Type 0
@@ -29,8 +29,16 @@ policy_read = suc policy_size
 abbrev pub events_read : ℕ
 events_read = suc (event_size * most_events)
 
--- the lent bytes have the text of some policy and of some events. Which bytes the files gave, no contract can say; this one tells
--- the two apart, by their sizes
+-- the text of some policy and of some events. Which bytes the files gave, no contract can say; this one tells the two apart, by
+-- their sizes
+pub record TextOfFiles (text : List ℕ) : Type 0 where
+  pub policy : List ℕ
+  pub events : List ℕ
+  pub policy_within : length policy ≤ policy_read
+  pub events_within : length events ≤ events_read
+  pub reported : text ≡ report_text policy events
+
+-- the lent bytes have such a text
 pub record OfFiles (before after : List ℕ) (size : ℕ) : Type 0 where
   pub policy : List ℕ
   pub events : List ℕ

@@ -2,147 +2,122 @@
 #![tactic(auto)]
 
 ghost use Rattle.std.specs.Prelude.{◌≡◌, ◌<◌};
-ghost use Rattle.device.specs.declared.Standing.TheVariants.{Nothing};
 ghost use Rattle.device.specs.Cells.{offered, admits};
 ghost use Rattle.device.specs.Device.{permission_count};
+ghost use Rattle.device.specs.Answers.{answering, answered};
 ghost use Rattle.model.specs.Valid.{declared};
 ghost use Rattle.model.specs.Decision.{standing, stands, given, too_wide, settled, decision, grant, revoke};
 
-pub fn declared(x: device::Slot, p: device::Permission) -> bool
+use device::{Answer, Decisions, Mode, Permission, Refusal, Slot, Standing, UserAnswer};
+
+// `p.0 < permission_count` is no invariant of `Permission`: an event may name 64, which `write_event` refuses.
+#[tactic(auto, unfolding(model::specs::Valid::declared), using(words::proofs::Sets::member_or))]
+pub fn declared(x: Slot, p: Permission) -> bool
     requires { p.0 < permission_count }
     ensures { result ≡ declared x p }
 {
-    let d = x.descriptor;
-    words::has(d.required | d.optional, p.0)
+    words::has(x.descriptor.required | x.descriptor.optional, p.0)
 }
 
 // For the session or for good: the session's decisions, and those of its suite's own slot.
-pub fn standing(
-    p: device::Permission,
-    session: device::Decisions,
-    slot: device::Decisions,
-) -> device::Standing
+#[tactic(auto, unfolding(model::specs::Decision::standing), using(words::proofs::Sets::member_or))]
+pub fn standing(p: Permission, session: Decisions, slot: Decisions) -> Standing
     requires { p.0 < permission_count }
     ensures { result ≡ standing p session slot }
 {
     if words::has(session.granted | slot.granted, p.0) {
-        return device::Standing::Granted;
+        return Standing::Granted;
     }
     if words::has(session.revoked | slot.revoked, p.0) {
-        return device::Standing::Revoked;
+        return Standing::Revoked;
     }
-    device::Standing::Nothing
+    Standing::Nothing
 }
 
-fn stands(w: device::Standing) -> bool
+fn stands(w: Standing) -> bool
     ensures { result ≡ stands w }
 {
-    match w {
-        device::Standing::Nothing => false,
-        device::Standing::Granted => true,
-        device::Standing::Revoked => true,
-    }
+    w != Standing::Nothing
 }
 
-fn given(u: device::UserAnswer) -> bool
+fn given(u: UserAnswer) -> bool
     ensures { result ≡ given u }
 {
-    match u {
-        device::UserAnswer::None => false,
-        device::UserAnswer::Allow(m) => true,
-        device::UserAnswer::Deny(m) => true,
-    }
+    u != UserAnswer::None
 }
 
-fn admits(cell: u8, m: device::Mode) -> bool
+fn admits(cell: u8, m: Mode) -> bool
     ensures { result ≡ admits cell m }
 {
-    let consent = device::Mode::highest(cell);
-    match consent {
-        device::Consent::Unasked => false,
-        device::Consent::UpTo(h) => m.number() <= h.number(),
-    }
+    Mode::highest(cell).is_some_and(|most| u8::from(m) <= u8::from(most))
 }
 
 // A denial has no bound.
-fn too_wide(cell: u8, u: device::UserAnswer) -> bool
+fn too_wide(cell: u8, u: UserAnswer) -> bool
     ensures { result ≡ too_wide cell u }
 {
     match u {
-        device::UserAnswer::None => false,
-        device::UserAnswer::Allow(m) => !admits(cell, m),
-        device::UserAnswer::Deny(m) => false,
+        UserAnswer::None => false,
+        UserAnswer::Allow(m) => !admits(cell, m),
+        UserAnswer::Deny(_) => false,
     }
 }
 
-fn answered(cell: u8, u: device::UserAnswer) -> device::Response
-    ensures { result ≡ settled cell Nothing u }
+fn settled(cell: u8, w: Standing, u: UserAnswer) -> Answer
+    ensures { answering result ≡ settled cell w u }
 {
-    match u {
-        device::UserAnswer::None => device::Response::ask(cell),
-        device::UserAnswer::Allow(m) => device::Response::allowed(),
-        device::UserAnswer::Deny(m) => device::Response::denied(),
-    }
-}
-
-fn settled(cell: u8, w: device::Standing, u: device::UserAnswer) -> device::Response
-    ensures { result ≡ settled cell w u }
-{
-    match w {
-        device::Standing::Nothing => answered(cell, u),
-        device::Standing::Granted => device::Response::allowed(),
-        device::Standing::Revoked => device::Response::denied(),
+    match (w, u) {
+        (Standing::Granted, _) => Answer::Allowed,
+        (Standing::Revoked, _) => Answer::Denied,
+        (Standing::Nothing, UserAnswer::None) => Answer::Ask(cell),
+        (Standing::Nothing, UserAnswer::Allow(_)) => Answer::Allowed,
+        (Standing::Nothing, UserAnswer::Deny(_)) => Answer::Denied,
     }
 }
 
 // The refusals come first: 26, 27, 28, 29.
-pub fn decision(
-    declared: bool,
-    cell: u8,
-    w: device::Standing,
-    u: device::UserAnswer,
-) -> device::Response
-    ensures { result ≡ decision declared cell w u }
+#[tactic(auto, unfolding(model::specs::Decision::decision))]
+pub fn decision(declared: bool, cell: u8, w: Standing, u: UserAnswer) -> Result<Answer, Refusal>
+    ensures { answered result ≡ decision declared cell w u }
 {
     if !declared {
-        return device::Response::not_declared();
+        return Err(Refusal::NotDeclared);
     }
-    let offers = device::offered(cell);
-    if !offers {
-        return device::Response::no_right();
+    if !device::offered(cell) {
+        return Err(Refusal::NoRight);
     }
     let stands = stands(w);
     let free = device::unconditional(cell);
     let unasked = given(u) & (free | stands);
     if unasked {
-        return device::Response::answer_not_asked();
+        return Err(Refusal::AnswerNotAsked);
     }
     let wide = too_wide(cell, u) & !stands;
     if wide {
-        return device::Response::mode_too_wide(cell);
+        return Err(Refusal::ModeTooWide(cell));
     }
     if free {
-        return device::Response::allowed();
+        return Ok(Answer::Allowed);
     }
-    settled(cell, w, u)
+    Ok(settled(cell, w, u))
 }
 
-pub fn grant(d: device::Decisions, p: device::Permission) -> device::Decisions
+pub fn grant(d: Decisions, p: Permission) -> Decisions
     requires { p.0 < permission_count }
     ensures { result ≡ grant p d }
 {
-    device::Decisions {
+    Decisions {
         granted: words::with(d.granted, p.0),
-        revoked: d.revoked,
+        ..d
     }
 }
 
-pub fn revoke(d: device::Decisions, p: device::Permission) -> device::Decisions
+pub fn revoke(d: Decisions, p: Permission) -> Decisions
     requires { p.0 < permission_count }
     ensures { result ≡ revoke p d }
 {
-    device::Decisions {
-        granted: d.granted,
+    Decisions {
         revoked: words::with(d.revoked, p.0),
+        ..d
     }
 }

@@ -4,17 +4,12 @@
 
 ghost use Rattle.std.specs.Prelude.{◌≤◌};
 
-use std::io;
+use device::{Response, Suite};
+use std::{array, io};
 
 // Every cell is met in every domain.
 fn policy() -> [u8; 512] {
-    let mut b = [0u8; 512];
-    let mut i: usize = 0;
-    while i < 512 {
-        b[i] = ((i / 64 + i % 64) % 5) as u8;
-        i += 1;
-    }
-    b
+    array::from_fn(|i| ((i / 64 + i % 64) % 5) as u8)
 }
 
 // Suite 10 runs, with two grants and a revocation for its session; all of its four kinds of sets have members.
@@ -62,26 +57,22 @@ fn line(rt: &impl Print, label: &str) -> io::Result<()> {
 }
 
 fn checked(rt: &impl Print, policy: &[u8], state: &[u8]) -> io::Result<()> {
-    let r = checks::check(policy, state);
-    print(rt, r.number)?;
-    Ok(())
+    print(rt, Response::from(checks::check(policy, state)).number)
 }
 
 // Each byte in turn with the bits of x turned over, a line for each record.
 fn damaged(rt: &impl Print, x: u8) -> io::Result<()> {
     let policy = policy();
     let good = good();
-    let mut k: usize = 0;
-    while k < 1320 {
+    for (k, byte) in good.iter().enumerate() {
         if k % 40 == 0 {
             line(rt, "record")?;
             print(rt, (k / 40) as u8)?;
             print!(rt; ":")?;
         }
         let mut bad = good;
-        bad[k] = good[k] ^ x;
+        bad[k] = *byte ^ x;
         checked(rt, &policy, &bad)?;
-        k += 1;
     }
     Ok(())
 }
@@ -124,22 +115,17 @@ fn cells(rt: &impl Print) -> io::Result<()> {
 fn found(rt: &impl Print, suite: u16) -> io::Result<()> {
     let policy = policy();
     let state = good();
-    let r = checks::find(&policy, &state, device::Suite(suite));
+    let found = checks::find(&policy, &state, Suite(suite));
     line(rt, "find:")?;
-    print(rt, r.number)?;
+    print(rt, Response::from(found).number)?;
     print!(rt; ", the part:")?;
-    bytes(
-        rt,
-        checks::suite_record(&policy, &state, device::Suite(suite)),
-    )?;
+    bytes(rt, checks::suite_record(&policy, &state, Suite(suite)))?;
     Ok(())
 }
 
 fn bytes(rt: &impl Print, part: &[u8]) -> io::Result<()> {
-    let mut k: usize = 0;
-    while k < part.len() {
-        print(rt, part[k])?;
-        k += 1;
+    for byte in part {
+        print(rt, *byte)?;
     }
     Ok(())
 }

@@ -1,9 +1,10 @@
--- Each event by its tests: the answer, and the state that follows. Assumes nothing.
+-- Each event by its tests: the answer, and the state that follows; laws that docs/PORT.md names. Assumes nothing.
 use mathlib.Core.Path.{◌≡◌, ◌∙◌}
 use mathlib.Core.Bool.{true, false}
 use mathlib.Core.List.{List}
 use Prim.Native.Nat.{ℕ, ◌≤◌, ◌<◌}
 use borrow.Author.Tests.{lt-ltb, le-ltb, eq-eqb, ne_eqb}
+use Rattle.std.specs.Prelude.{Some, None}
 use Rattle.device.specs.declared.Suite.{Suite}
 use Rattle.device.specs.declared.Domain.{Domain}
 use Rattle.device.specs.declared.Descriptor.{Descriptor}
@@ -18,7 +19,7 @@ use Rattle.device.specs.Answers.{DONE, NO_SESSION, BUSY, NOT_INSTALLED, INSTALLE
 use Rattle.model.specs.Step.{Outcome, answer, lacking, installed, step}
 use Rattle.model.proofs.Slots.{amend_place}
 use Rattle.store.specs.Holds.{Holds, with_slot}
-use Rattle.store.proofs.Places.{carries_below}
+use Rattle.store.proofs.Places.{carries_below, found_at}
 use Rattle.steps.specs.Did.{Did, place_after}
 
 pub did : {o : Outcome} {a r : Response} {s : State} {b : List ℕ} → o ≡ answer a s → r ≡ a → Holds b s → Did o b r
@@ -93,18 +94,18 @@ module _ (f : Fixed) (b : List ℕ) where
       unfolding step
       start_done h = rw (← read, eq-eqb _ _ e, present h)
 
-      pub start_nowhere : 32 ≤ k → 32 ≡ place_after s (Start i)
+      pub start_nowhere : 32 ≤ k → None ≡ place_after s (Start i)
       start_nowhere h = rw (← read, eq-eqb _ _ e, absent h)
 
-      pub start_there : k < 32 → k ≡ place_after s (Start i)
-      start_there h = rw (← read, eq-eqb _ _ e, present h) place-i
+      pub start_there : k < 32 → Some k ≡ place_after s (Start i)
+      start_there h = rw (← read, eq-eqb _ _ e, present h) (found_at h place-i)
 
   module _ (r : Session) (read : r ≡ s.session) where
     pub start_busy : (i : Suite) → (r.suite.0 ≡ 0 → ⊥) → step f s (Start i) ≡ answer BUSY s
     unfolding step
     start_busy i n = rw (← read, ne_eqb _ _ n)
 
-    pub start_beside : (i : Suite) → (r.suite.0 ≡ 0 → ⊥) → 32 ≡ place_after s (Start i)
+    pub start_beside : (i : Suite) → (r.suite.0 ≡ 0 → ⊥) → None ≡ place_after s (Start i)
     start_beside i n = rw (← read, ne_eqb _ _ n)
 
     -- ---- terminate

@@ -1,277 +1,228 @@
 // The five events, in place: from bytes that hold a state to bytes that hold the next one.
 #![tactic(auto)]
 
-ghost use Rattle.std.specs.Prelude.{◌≡◌, true, ◌<◌, length};
+mod terminal;
+
+ghost use Rattle.std.specs.Prelude.{◌≡◌, true, ◌<◌};
 ghost use Rattle.device.specs.declared.Decisions.{Decisions};
 ghost use Rattle.device.specs.declared.Event.TheVariants.{Install, Remove, Start, Terminate, Request};
-ghost use Rattle.device.specs.Device.{permission_count, slot_count};
-ghost use Rattle.model.specs.Policy.{Fixed, fixed_by};
-ghost use Rattle.model.specs.State.{state_size, read_state};
-ghost use Rattle.model.specs.Step.{lacking, session_deciding, slot_deciding, running_slot, keep, enter, step};
-ghost use Rattle.store.specs.Holds.{Holds, WellFormed};
-ghost use Rattle.steps.specs.Did.{Did, running_place, Knows, place_after, named};
+ghost use Rattle.device.specs.Device.{permission_count};
+ghost use Rattle.device.specs.Answers.{answered};
+ghost use Rattle.model.specs.Policy.{fixed_by};
+ghost use Rattle.model.specs.State.{read_state};
+ghost use Rattle.model.specs.Step.{running_slot, keep, enter};
+ghost use Rattle.store.specs.Holds.{found};
+ghost use Rattle.steps.specs.Did.{Running, lacking_one, running_place, Knows, named};
+ghost use Rattle.steps.specs.Carried.{Carried, Left};
 
-// An answer, and the place of the running suite's slot if it is known.
-#[derive(Clone, Copy)]
-pub struct Done {
-    pub response: device::Response,
-    pub at: usize,
-}
+use device::{
+    Answer, Decisions, Descriptor, Domain, Event, Mode, Permission, Refusal, Session, Slot, Suite,
+    UserAnswer,
+};
+use store::STATE_SIZE;
+pub use terminal::Terminal;
 
 // The cell of a permission in a domain; 0 where the policy has none.
-fn cell(policy: &[u8], domain: device::Domain, p: device::Permission) -> u8
+#[tactic(auto, unfolding(model::specs::Policy::fixed_by))]
+fn cell(policy: &[u8], domain: Domain, p: Permission) -> u8
     ensures { result ≡ (fixed_by policy.now).cell domain p }
 {
     let i = device::ROW_SIZE * domain.0 as usize + p.0 as usize;
-    if i < policy.len() {
-        return policy[i];
-    }
-    0
+    policy.get(i).copied().unwrap_or(0)
 }
 
-// The lowest permission that is required and not offered; 64 where there is none.
-fn lacking(policy: &[u8], x: device::Descriptor, domain: device::Domain) -> u8
-    ensures { record { 0 = result } ≡ lacking (fixed_by policy.now) x domain }
+// The lowest permission that is required and not offered.
+fn lacking(policy: &[u8], x: Descriptor, domain: Domain) -> Option<Permission>
+    ensures { result ≡ lacking_one (fixed_by policy.now) x domain }
 {
-    let required = x.required;
-    let mut p: u8 = 0;
-    while p < device::Permission::COUNT {
-        let offers = device::offered(cell(policy, domain, device::Permission(p)));
-        if words::has(required, p) & !offers {
-            return p;
+    for p in 0..Permission::COUNT {
+        let offers = device::offered(cell(policy, domain, Permission(p)));
+        if words::has(x.required, p) & !offers {
+            return Some(Permission(p));
         }
-        p += 1;
     }
-    p
+    None
 }
 
-fn install(
-    policy: &[u8],
-    state: &mut [u8],
-    i: device::Suite,
-    x: device::Descriptor,
-    domain: device::Domain,
-) -> device::Response
-    requires { WellFormed state.old }
-    ensures { Did (step (fixed_by policy.now) (read_state state.old) (Install i x domain))
-        state.new result }
-{
-    if store::place_of(state, i) < store::SLOT_COUNT {
-        return device::Response::installed();
-    }
-    let p = lacking(policy, x, domain);
-    if p < device::Permission::COUNT {
-        return device::Response::not_offered(device::Permission(p));
-    }
-    let room = store::place_of(state, device::Suite(0));
-    if store::SLOT_COUNT <= room {
-        return device::Response::no_room();
-    }
-    let decisions = device::Decisions::none();
-    store::write_slot(
-        state,
-        room,
-        device::Slot {
-            suite: i,
-            domain,
-            descriptor: x,
-            decisions,
-        },
-    );
-    device::Response::done()
-}
-
-fn remove(state: &mut [u8], i: device::Suite) -> device::Response
-    requires { WellFormed state.old }
-    ensures { (f : Fixed) → Did (step f (read_state state.old) (Remove i)) state.new result }
-{
-    let k = store::place_of(state, i);
-    if store::SLOT_COUNT <= k {
-        return device::Response::not_installed();
-    }
-    let session = store::read_session(state);
-    let running = session.suite;
-    if running.0 == i.0 {
-        return device::Response::active();
-    }
-    store::write_slot(state, k, device::Slot::free());
-    device::Response::done()
-}
-
-fn start(state: &mut [u8], i: device::Suite) -> Done
-    requires { WellFormed state.old }
-    ensures { (f : Fixed) → Did (step f (read_state state.old) (Start i)) state.new result.response
-        × (result.at ≡ place_after (read_state state.old) (Start i)) }
+// What runs; 19 where nothing does.
+fn running(state: &[u8; STATE_SIZE]) -> Result<Session, Refusal>
+    ensures { Running (read_state state.now).session result }
 {
     let session = store::read_session(state);
-    let running = session.suite;
-    if running.0 != 0 {
-        return unknown(device::Response::busy());
+    if session.suite == Suite(0) {
+        return Err(Refusal::NoSession);
     }
-    let k = store::place_of(state, i);
-    if store::SLOT_COUNT <= k {
-        return unknown(device::Response::not_installed());
-    }
-    let decisions = device::Decisions::none();
-    store::write_session(
-        state,
-        device::Session {
-            suite: i,
-            decisions,
-        },
-    );
-    Done {
-        response: device::Response::done(),
-        at: k,
-    }
-}
-
-fn terminate(state: &mut [u8]) -> device::Response
-    requires { WellFormed state.old }
-    ensures { (f : Fixed) → Did (step f (read_state state.old) Terminate) state.new result }
-{
-    let session = store::read_session(state);
-    let running = session.suite;
-    if running.0 == 0 {
-        return device::Response::no_session();
-    }
-    store::write_session(state, device::Session::idle());
-    device::Response::done()
-}
-
-fn session_with(r: device::Session, decisions: device::Decisions) -> device::Session
-    ensures { result ≡ record { suite = r.suite; decisions = decisions } }
-{
-    let suite = r.suite;
-    device::Session { suite, decisions }
-}
-
-fn slot_with(x: device::Slot, decisions: device::Decisions) -> device::Slot
-    ensures { result ≡ record { suite = x.suite; domain = x.domain; descriptor = x.descriptor; decisions = decisions } }
-{
-    let suite = x.suite;
-    let domain = x.domain;
-    let descriptor = x.descriptor;
-    device::Slot {
-        suite,
-        domain,
-        descriptor,
-        decisions,
-    }
-}
-
-// A decision that holds as long as m says: in the session, in the slot, nowhere.
-fn keep(state: &mut [u8], at: usize, m: device::Mode, session: device::Session, slot: device::Slot)
-    requires { WellFormed state.old × (at ≡ running_place (read_state state.old)) }
-    ensures { (g : Decisions → Decisions) → session ≡ session_deciding g (read_state state.old).session
-        → slot ≡ slot_deciding g (running_slot (read_state state.old))
-        → Holds state.new (keep m g (read_state state.old)) }
-{
-    match m {
-        device::Mode::Oneshot => {}
-        device::Mode::Session => store::write_session(state, session),
-        device::Mode::Blanket => store::write_slot(state, at, slot),
-    }
-}
-
-// The user's answer is entered for the running suite, which has this session and this slot.
-fn enter(
-    state: &mut [u8],
-    at: usize,
-    session: device::Session,
-    slot: device::Slot,
-    p: device::Permission,
-    u: device::UserAnswer,
-)
-    requires { WellFormed state.old × (at ≡ running_place (read_state state.old))
-        × (session ≡ (read_state state.old).session) × (slot ≡ running_slot (read_state state.old)) × (p.0 < permission_count) }
-    ensures { Holds state.new (enter u p (read_state state.old)) }
-{
-    match u {
-        device::UserAnswer::None => {}
-        device::UserAnswer::Allow(allowed) => keep(
-            state,
-            at,
-            allowed,
-            session_with(session, rules::grant(session.decisions, p)),
-            slot_with(slot, rules::grant(slot.decisions, p)),
-        ),
-        device::UserAnswer::Deny(denied) => keep(
-            state,
-            at,
-            denied,
-            session_with(session, rules::revoke(session.decisions, p)),
-            slot_with(slot, rules::revoke(slot.decisions, p)),
-        ),
-    }
+    Ok(session)
 }
 
 // The place of the running suite's slot, looked up where it is not known.
-fn running_at(state: &[u8], at: usize) -> usize
-    requires { (length state.now ≡ state_size) × Knows (read_state state.now) at }
-    ensures { result ≡ running_place (read_state state.now) }
+fn running_at(state: &[u8; STATE_SIZE], known: Option<usize>, running: Suite) -> Option<usize>
+    requires known { Knows (read_state state.now) known }
+    requires running { running ≡ (read_state state.now).session.suite }
+    ensures { result ≡ found (running_place (read_state state.now)) }
 {
-    if at < store::SLOT_COUNT {
-        return at;
-    }
-    let session = store::read_session(state);
-    store::place_of(state, session.suite)
+    known.or_else(|| store::place_of(state, running))
 }
 
-// The one look-up of a standing decision: in the session, and in the running suite's own slot, which has its number.
-fn request(
-    policy: &[u8],
-    state: &mut [u8],
-    at: usize,
-    p: device::Permission,
-    u: device::UserAnswer,
-) -> Done
-    requires { WellFormed state.old × Knows (read_state state.old) at × (p.0 < permission_count) }
-    ensures { Did (step (fixed_by policy.now) (read_state state.old) (Request p u))
-        state.new result.response × (result.at ≡ place_after (read_state state.old) (Request p u)) }
-{
-    let session = store::read_session(state);
-    let running = session.suite;
-    if running.0 == 0 {
-        return unknown(device::Response::no_session());
+impl Terminal<'_> {
+    #[tactic(auto, unfolding(model::specs::Step::step, crate::specs::Did::lacking_one), using(store::proofs::Places::carries_found, store::proofs::Places::carries_not_found, model::proofs::Slots::amend_place))]
+    fn install(&mut self, i: Suite, x: Descriptor, domain: Domain) -> Result<Answer, Refusal>
+        ensures { Carried self.old self.new (Install i x domain) (answered result) }
+    {
+        self.place = None;
+        if store::place_of(self.state, i).is_some() {
+            return Err(Refusal::Installed);
+        }
+        if let Some(p) = lacking(self.policy, x, domain) {
+            return Err(Refusal::NotOffered(p));
+        }
+        let room = store::place_of(self.state, Suite(0)).ok_or(Refusal::NoRoom)?;
+        store::write_slot(
+            self.state,
+            room,
+            Slot {
+                suite: i,
+                domain,
+                descriptor: x,
+                decisions: Decisions::none(),
+            },
+        );
+        Ok(Answer::Done)
     }
-    let k = running_at(state, at);
-    let slot = store::read_slot(state, k);
-    let stands = rules::standing(p, session.decisions, slot.decisions);
-    let response = rules::decision(
-        rules::declared(slot, p),
-        cell(policy, slot.domain, p),
-        stands,
-        u,
-    );
-    let refused = response.refused();
-    if refused {
-        return Done { response, at: k };
-    }
-    enter(state, k, session, slot, p, u);
-    Done { response, at: k }
-}
 
-fn unknown(response: device::Response) -> Done
-    ensures { result ≡ record { response = response; at = slot_count } }
-{
-    Done {
-        response,
-        at: store::SLOT_COUNT,
+    #[tactic(auto, unfolding(model::specs::Step::step), using(store::proofs::Places::carries_found, store::proofs::Places::carries_not_found, model::proofs::Slots::amend_place))]
+    fn remove(&mut self, i: Suite) -> Result<Answer, Refusal>
+        ensures { Carried self.old self.new (Remove i) (answered result) }
+    {
+        self.place = None;
+        let k = store::place_of(self.state, i).ok_or(Refusal::NotInstalled)?;
+        if store::read_session(self.state).suite == i {
+            return Err(Refusal::Active);
+        }
+        store::write_slot(self.state, k, Slot::free());
+        Ok(Answer::Done)
     }
-}
 
-pub fn step(policy: &[u8], state: &mut [u8], at: usize, event: device::Event) -> Done
-    requires { WellFormed state.old × Knows (read_state state.old) at × (named event ≡ true) }
-    ensures { Did (step (fixed_by policy.now) (read_state state.old) event) state.new result.response
-        × (result.at ≡ place_after (read_state state.old) event) }
-{
-    match event {
-        device::Event::Unreadable => unknown(device::Response::bad_event()),
-        device::Event::Install(i, x, d) => unknown(install(policy, state, i, x, d)),
-        device::Event::Remove(i) => unknown(remove(state, i)),
-        device::Event::Start(i) => start(state, i),
-        device::Event::Terminate => unknown(terminate(state)),
-        device::Event::Request(p, u) => request(policy, state, at, p, u),
+    #[tactic(auto, unfolding(model::specs::Step::step), using(store::proofs::Places::carries_found, store::proofs::Places::carries_not_found))]
+    fn start(&mut self, i: Suite) -> Result<Answer, Refusal>
+        ensures { Carried self.old self.new (Start i) (answered result) }
+    {
+        self.place = None;
+        if store::read_session(self.state).suite != Suite(0) {
+            return Err(Refusal::Busy);
+        }
+        let k = store::place_of(self.state, i).ok_or(Refusal::NotInstalled)?;
+        store::write_session(
+            self.state,
+            Session {
+                suite: i,
+                decisions: Decisions::none(),
+            },
+        );
+        self.place = Some(k);
+        Ok(Answer::Done)
+    }
+
+    #[tactic(auto, unfolding(model::specs::Step::step))]
+    fn terminate(&mut self) -> Result<Answer, Refusal>
+        ensures { Carried self.old self.new Terminate (answered result) }
+    {
+        self.place = None;
+        running(self.state)?;
+        store::write_session(self.state, Session::idle());
+        Ok(Answer::Done)
+    }
+
+    // A decision that holds as long as m says: in the session, in the slot at k, nowhere.
+    #[tactic(auto, using(model::proofs::Slots::amend_place))]
+    fn keep<F: FnOnce(Decisions) -> Decisions>(
+        &mut self,
+        k: usize,
+        m: Mode,
+        session: Session,
+        slot: Slot,
+        decide: F,
+    )
+        requires place { k ≡ running_place (read_state self.old.state.now) }
+        requires session { session ≡ (read_state self.old.state.now).session }
+        requires slot { slot ≡ running_slot (read_state self.old.state.now) }
+        requires callable { F.IsAlwaysCallable decide }
+        ensures { (g : Decisions → Decisions) → ((d r : Decisions) → F.post decide d r → r ≡ g d)
+            → Left self.old self.new (keep m g (read_state self.old.state.now)) }
+    {
+        match m {
+            Mode::Oneshot => {}
+            Mode::Session => {
+                let decisions = decide(session.decisions);
+                store::write_session(
+                    self.state,
+                    Session {
+                        decisions,
+                        ..session
+                    },
+                );
+            }
+            Mode::Blanket => {
+                let decisions = decide(slot.decisions);
+                store::write_slot(self.state, k, Slot { decisions, ..slot });
+            }
+        }
+    }
+
+    // The user's answer is entered for the running suite, which has this session and this slot.
+    fn enter(&mut self, k: usize, session: Session, slot: Slot, p: Permission, u: UserAnswer)
+        requires place { k ≡ running_place (read_state self.old.state.now) }
+        requires session { session ≡ (read_state self.old.state.now).session }
+        requires slot { slot ≡ running_slot (read_state self.old.state.now) }
+        requires permission { p.0 < permission_count }
+        ensures { Left self.old self.new (enter u p (read_state self.old.state.now)) }
+    {
+        match u {
+            UserAnswer::None => {}
+            UserAnswer::Allow(m) => self.keep(k, m, session, slot, |d| rules::grant(d, p)),
+            UserAnswer::Deny(m) => self.keep(k, m, session, slot, |d| rules::revoke(d, p)),
+        }
+    }
+
+    // The one look-up of a standing decision: in the session, and in the running suite's own slot, which has its number.
+    #[tactic(auto, unfolding(model::specs::Step::step, model::specs::Step::request, model::specs::Step::judged), using(store::proofs::Places::found_some, store::proofs::Places::found_none, model::proofs::Slots::find_place, device::proofs::Responses::answer_taken, device::proofs::Responses::refusal_refused))]
+    fn request(&mut self, p: Permission, u: UserAnswer) -> Result<Answer, Refusal>
+        requires { p.0 < permission_count }
+        ensures { Carried self.old self.new (Request p u) (answered result) }
+    {
+        let known = self.place.take();
+        let session = running(self.state)?;
+        self.place = running_at(self.state, known, session.suite);
+        let Some(k) = self.place else {
+            // A suite without a slot declares nothing.
+            return Err(Refusal::NotDeclared);
+        };
+        let slot = store::read_slot(self.state, k);
+        let answer = rules::decision(
+            rules::declared(slot, p),
+            cell(self.policy, slot.domain, p),
+            rules::standing(p, session.decisions, slot.decisions),
+            u,
+        )?;
+        self.enter(k, session, slot, p, u);
+        Ok(answer)
+    }
+
+    // Any event.
+    pub fn step(&mut self, event: Event) -> Result<Answer, Refusal>
+        requires { named event ≡ true }
+        ensures { Carried self.old self.new event (answered result) }
+    {
+        match event {
+            Event::Unreadable => {
+                self.place = None;
+                Err(Refusal::BadEvent)
+            }
+            Event::Install(i, x, d) => self.install(i, x, d),
+            Event::Remove(i) => self.remove(i),
+            Event::Start(i) => self.start(i),
+            Event::Terminate => self.terminate(),
+            Event::Request(p, u) => self.request(p, u),
+        }
     }
 }

@@ -5,7 +5,7 @@ use mathlib.Core.List.{List, [], ◌∷◌, ◌++◌}
 use Prim.Native.Nat.{ℕ, zero, suc, ◌+◌, ◌*◌, ◌^◌, ◌≤◌, ◌<◌}
 use native.Mathlib.Nat.{add-zero, mod-eq_of_lt}
 use native.Mathlib.Omega.{arith}
-use lib.ListN.{length, get_or, set, length-append}
+use lib.ListN.{length, get_or, get_or-eq_default, set, length-append}
 use lib.Seq.{sets}
 use Rattle.words.specs.Numbers.{le_at, bytes_of}
 use Rattle.words.proofs.Numbers.{le_at-bytes}
@@ -13,6 +13,7 @@ use Rattle.words.proofs.Stores.{sets_front, sets_behind, get_or-sets_in, get_or-
 use Rattle.device.specs.declared.Slot.{Slot}
 use Rattle.device.specs.declared.Session.{Session}
 use Rattle.model.specs.State.{session_at, session_bytes, slot_at, slot_bytes, slots_from, slots_bytes}
+use Rattle.model.proofs.Bytes.{length-slots}
 
 -- ---- a slot
 
@@ -91,6 +92,11 @@ unfolding slots_from
 slots_get b d zero a k h = absurd (omega arith)
 slots_get b d (suc n) a zero h = ap (slot_at b) (omega arith)
 slots_get b d (suc n) a (suc k) h = slots_get b d n (a + 40) k (omega arith) ∙ ap (slot_at b) (omega arith)
+
+pub slots_none : (b : List ℕ) (d : Slot) (n a k : ℕ) → n ≤ k → get_or (slots_from b n a) k d ≡ d
+slots_none b d n a k h = get_or-eq_default (slots_from b n a) d (omega (arith, length-slots b n a))
+
+pub ruleset slot_reads = (slots_get, slots_none)
 
 -- stores that lie before the slots, or behind them
 pub slots_beside : (l : List ℕ) (a : ℕ) (vs : List ℕ) (n b : ℕ) → (b + 40 * n ≤ a) ⊎ (a + length vs ≤ b)

@@ -1,9 +1,10 @@
 -- Numbers in bytes: the laws of `le_at` and `bytes_of`, each once for every width. Assumes nothing.
-use mathlib.Core.Path.{◌≡◌, refl, ap}
+use mathlib.Core.Path.{◌≡◌, refl, sym, ap}
 use mathlib.Core.Bool.{Bool, true, false, ◌&&◌, and_assoc}
 use mathlib.Core.List.{List, [], ◌∷◌, ◌++◌}
-use Prim.Native.Nat.{ℕ, zero, suc, ◌+◌, ◌*◌, ◌/◌, ◌%◌, ◌^◌, ◌≤◌, ◌<◌}
-use native.Mathlib.Nat.{zero-add, add-zero, suc-add, pow-zero, pow-suc, pow-succ', mul_assoc, one-mul, mod-one, one-le-pow}
+use Prim.Native.Nat.{ℕ, zero, suc, ◌+◌, ◌*◌, ◌/◌, ◌-◌, ◌%◌, ◌^◌, ◌≤◌, ◌<◌}
+use native.Mathlib.Nat.{zero-add, add-zero, suc-add, pow-zero, pow-suc, pow-succ', mul_assoc, mul_comm, one-mul, mod-one}
+use native.Mathlib.Nat.{div-one, div-div-eq-div-mul, one-le-pow}
 use native.Mathlib.Numerals.{add-one}
 use native.Mathlib.Omega.{arith}
 use lib.Arith.{mod-mul}
@@ -11,6 +12,7 @@ use lib.Dec.{eqb, lit<}
 use borrow.Author.Tests.{eqb-true, eqb-false, eq-eqb, ne_eqb}
 use lib.ListN.{length, get_or, take, drop, length-append}
 use lib.Seq.{drop-cons, append_snoc, get_or-append_seam}
+use Rattle.std.specs.Int.{sum_through, byte_worth, bytes_low_first}
 use Rattle.words.specs.Numbers.{le_at, bytes_of}
 
 -- a number of a + b bytes is its low a bytes and its high b bytes
@@ -111,3 +113,26 @@ bytes_of-le_at (suc w) s i l h =
     let b : i < length s = omega arith in
     rw (low (le_at w s (i + 1)) (h i), rest (le_at w s (i + 1)) (h i), drop-cons s i 0, ← add-one i)
     (ap (λ (t : List ℕ). get_or s i 0 ∷ t) (bytes_of-le_at w s (i + 1) (omega arith) h))
+
+-- ---- in std's words
+
+-- the number that bytes make is the sum of what each is worth
+sum_of : (w : ℕ) (s : List ℕ) (i : ℕ) → le_at (w + 1) s i ≡ sum_through (λ k. byte_worth k (get_or s (i + k) 0)) w
+sum_of zero s i = rw le_at_one (simp add-zero)
+sum_of (suc w) s i = rw (le_at-add (suc w) 1 s i, le_at_one, ← add-one w, sum_of w s i, mul_comm (256 ^ (w + 1)))
+
+pub from_bytes : (w : ℕ) (s : List ℕ) (i : ℕ) → 0 < w → le_at w s i ≡ sum_through (λ k. byte_worth k (get_or s (i + k) 0)) (w - 1)
+from_bytes zero s i h = absurd (omega arith)
+from_bytes (suc w) s i h = let e : suc w - 1 ≡ w = omega arith in rw (e, ← add-one w) (sum_of w s i)
+
+-- the bytes of a number are its bytes one by one
+low_first : (k w x : ℕ) → bytes_low_first k w x ≡ bytes_of w (x / 256 ^ k)
+unfolding bytes_of
+low_first k zero x = refl
+low_first zero (suc w) x = rw (div-one, low_first 1 w x)
+low_first (suc k) (suc w) x =
+    let e : x / 256 ^ suc (suc k) ≡ x / 256 ^ suc k / 256 = rw (pow-suc, ← div-div-eq-div-mul) in
+    rw (low_first (suc (suc k)) w x, e)
+
+pub to_bytes : (w x : ℕ) → bytes_of w x ≡ bytes_low_first 0 w x
+to_bytes w x = sym (simp div-one at (low_first 0 w x))

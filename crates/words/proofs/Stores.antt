@@ -3,13 +3,15 @@ use mathlib.Core.Path.{◌≡◌, refl, ◌∙◌}
 use mathlib.Core.Logic.{◌⊎◌, inl, inr, ⊎_elim}
 use mathlib.Core.List.{List, [], ◌∷◌, ◌++◌, append-nil}
 use Prim.Native.Nat.{ℕ, zero, suc, ◌+◌, ◌/◌, ◌%◌, ◌^◌, ◌≤◌, ◌<◌}
-use native.Mathlib.Nat.{zero-add, add-zero, suc-add, pow-zero, pow-succ', div-one, div-div-eq-div-mul}
+use native.Mathlib.Nat.{zero-add, add-zero, suc-add, pow-zero, pow-succ', div-one, div-div-eq-div-mul, mod-eq_of_lt}
 use native.Mathlib.Numerals.{add-one}
 use native.Mathlib.Omega.{arith}
 use lib.ListN.{length, get_or, set, length-set, length-append}
 use lib.Seq.{sets, sets-eq, set-get_or, drop-append_seam, get_or-set_same, get_or-set_other}
+use Rattle.std.proofs.lemmas.List.{drop-drop, append_assoc}
+use borrow.Rule.Slice.PartMut.{put_mid}
 use Rattle.words.specs.Numbers.{le_at, bytes_of}
-use Rattle.words.proofs.Numbers.{low, rest, le_at_same, length-bytes_of, bytes_hold}
+use Rattle.words.proofs.Numbers.{low, rest, le_at_same, length-bytes_of, bytes_hold, from_bytes, to_bytes}
 
 -- consecutive stores are one
 pub sets_then : (l : List ℕ) (i : ℕ) (vs ws : List ℕ) → sets (sets l i vs) (i + length vs) ws ≡ sets l i (vs ++ ws)
@@ -22,6 +24,17 @@ sets_then l i (v ∷ vs) ws =
 pub sets_next : {m n : List ℕ} (l : List ℕ) (i : ℕ) (vs ws : List ℕ) → m ≡ sets l i vs → n ≡ sets m (i + length vs) ws
     → n ≡ sets l i (vs ++ ws)
 sets_next l i vs ws p q = q ∙ rw p (sets_then l i vs ws)
+
+-- the store of one byte
+pub sets_byte : (l : List ℕ) (i : ℕ) {x : ℕ} → x < 256 → sets l i (bytes_of 1 x) ≡ set l i x
+unfolding bytes_of
+sets_byte l i h = rw (mod-eq_of_lt h)
+
+-- a part that is replaced is stored
+pub sets_part : (l : List ℕ) (i k : ℕ) (vs : List ℕ) → length vs ≡ k → i + k ≤ length l → put_mid i k l vs ≡ sets l i vs
+sets_part l i k vs e h =
+    let b : i + length vs ≤ length l = omega arith in
+    rw (sets-eq vs l i, drop-drop, e, append_assoc)
 
 -- the stores of the low a bytes of a number and of its high b bytes are the stores of all
 pub sets_bytes : (a b : ℕ) (l : List ℕ) (i x : ℕ)
@@ -96,3 +109,6 @@ pub le_at_beside : (w : ℕ) (l : List ℕ) (i : ℕ) (vs : List ℕ) (k : ℕ) 
 le_at_beside w l i vs k h =
     le_at_same w (sets l i vs) l k k
     (λ j m. get_or-sets_other l i vs (k + j) (⊎_elim (λ b. inl (omega arith)) (λ b. inr (omega arith)) h))
+
+-- what the load and the store of a number go by
+pub ruleset word_laws = (from_bytes, to_bytes, sets_byte, sets_part)

@@ -1,73 +1,108 @@
-// Numbers of 16, 32 and 64 bits in lent bytes, and sets of permissions.
-//
-// Each width is two calls of half the width: the types then bound every sum, one law over the width
-// (`le_at-add`, `sets_bytes`) closes every proof, and the compiler makes one load or store of it.
-#![tactic(auto)]
+// Numbers in lent bytes, the lowest byte first, and sets of permissions.
+#![tactic(auto, using(crate::proofs::Stores::word_laws))]
 
-ghost use Rattle.std.specs.Prelude.{◌≡◌, ◌+◌, ◌^◌, ◌<◌, ◌≤◌, length, set};
+ghost use Rattle.std.specs.Prelude.{◌≡◌, ℕ, ◌+◌, ◌^◌, ◌<◌, ◌≤◌, length, set};
 ghost use Rattle.std.proofs.lemmas.List.Edits.{sets};
 ghost use Rattle.words.specs.Numbers.{le_at, bytes_of};
 ghost use Rattle.words.specs.Sets.{member, insert, remove};
 
-// A byte as a wider number: a call says that it is below 256, which `as` on an element does not.
-fn wide(x: u8) -> u16
-    ensures { (result ≡ x) × (result < 256) }
-{
-    x as u16
+// A number that lies in lent bytes. The compiler makes one load or store of each call.
+pub trait Word: Copy {
+    // how many bytes it has
+    ghost width: { ℕ };
+
+    ghost number: { Self → ℕ };
+
+    fn read(s: &[u8], i: usize) -> Self
+        requires { i + width ≤ length s.now }
+        ensures { number result ≡ le_at width s.now i };
+
+    fn write(self, s: &mut [u8], i: usize)
+        requires { i + width ≤ length s.old }
+        ensures bytes { s.new ≡ sets s.old i (bytes_of width (number self)) };
+
+    // what was read is known by its number
+    ghost by_number: { (x y : Self) → number x ≡ number y → x ≡ y };
 }
 
-pub fn read16(s: &[u8], i: usize) -> u16
-    requires { i + 2 ≤ length s.now }
-    ensures { result ≡ le_at 2 s.now i }
-{
-    wide(s[i]) + 256 * wide(s[i + 1])
+impl Word for u8 {
+    ghost width = { 1 };
+
+    ghost number = { λ x. x };
+
+    ghost by_number = { λ x y e. e };
+
+    fn read(s: &[u8], i: usize) -> u8 {
+        s[i]
+    }
+
+    fn write(self, s: &mut [u8], i: usize)
+        requires { i + 1 ≤ length s.old }
+        ensures bytes { s.new ≡ sets s.old i (bytes_of 1 self) }
+        ensures byte { s.new ≡ set s.old i self }
+    {
+        s[i] = self;
+    }
 }
 
-pub fn read32(s: &[u8], i: usize) -> u32
-    requires { i + 4 ≤ length s.now }
-    ensures { result ≡ le_at 4 s.now i }
-{
-    read16(s, i) as u32 + 65536 * (read16(s, i + 2) as u32)
+impl Word for u16 {
+    ghost width = { 2 };
+
+    ghost number = { λ x. x };
+
+    ghost by_number = { λ x y e. e };
+
+    fn read(s: &[u8], i: usize) -> u16 {
+        u16::from_le_bytes([s[i], s[i + 1]])
+    }
+
+    fn write(self, s: &mut [u8], i: usize) {
+        s[i..i + 2].copy_from_slice(&self.to_le_bytes());
+    }
 }
 
-pub fn read64(s: &[u8], i: usize) -> u64
-    requires { i + 8 ≤ length s.now }
-    ensures { result ≡ le_at 8 s.now i }
-{
-    read32(s, i) as u64 + 4294967296 * (read32(s, i + 4) as u64)
+impl Word for u32 {
+    ghost width = { 4 };
+
+    ghost number = { λ x. x };
+
+    ghost by_number = { λ x y e. e };
+
+    fn read(s: &[u8], i: usize) -> u32 {
+        u32::from_le_bytes([s[i], s[i + 1], s[i + 2], s[i + 3]])
+    }
+
+    fn write(self, s: &mut [u8], i: usize) {
+        s[i..i + 4].copy_from_slice(&self.to_le_bytes());
+    }
 }
 
-// One byte, as a call: a function that stores by calls alone has its lengths proved by itself.
-pub fn write8(s: &mut [u8], i: usize, x: u8)
-    requires { i < length s.old }
-    ensures { s.new ≡ set s.old i x }
-{
-    s[i] = x;
+impl Word for u64 {
+    ghost width = { 8 };
+
+    ghost number = { λ x. x };
+
+    ghost by_number = { λ x y e. e };
+
+    fn read(s: &[u8], i: usize) -> u64 {
+        u64::from_le_bytes([
+            s[i],
+            s[i + 1],
+            s[i + 2],
+            s[i + 3],
+            s[i + 4],
+            s[i + 5],
+            s[i + 6],
+            s[i + 7],
+        ])
+    }
+
+    fn write(self, s: &mut [u8], i: usize) {
+        s[i..i + 8].copy_from_slice(&self.to_le_bytes());
+    }
 }
 
-pub fn write16(s: &mut [u8], i: usize, x: u16)
-    requires { i + 2 ≤ length s.old }
-    ensures { s.new ≡ sets s.old i (bytes_of 2 x) }
-{
-    write8(s, i, (x % 256) as u8);
-    write8(s, i + 1, (x / 256) as u8);
-}
-
-pub fn write32(s: &mut [u8], i: usize, x: u32)
-    requires { i + 4 ≤ length s.old }
-    ensures { s.new ≡ sets s.old i (bytes_of 4 x) }
-{
-    write16(s, i, (x % 65536) as u16);
-    write16(s, i + 2, (x / 65536) as u16);
-}
-
-pub fn write64(s: &mut [u8], i: usize, x: u64)
-    requires { i + 8 ≤ length s.old }
-    ensures { s.new ≡ sets s.old i (bytes_of 8 x) }
-{
-    write32(s, i, (x % 4294967296) as u32);
-    write32(s, i + 4, (x / 4294967296) as u32);
-}
+// A set is a `u64` and p a number, as in the definitions: a type for `p < 64` would be made and opened at each call.
 
 // The number that p is worth: the shift is turned into a power here, once.
 fn worth(p: u8) -> u64
@@ -77,6 +112,7 @@ fn worth(p: u8) -> u64
     1 << p
 }
 
+#[tactic(auto, unfolding(crate::specs::Sets::member, crate::specs::Sets::bit))]
 pub fn has(s: u64, p: u8) -> bool
     requires { p < 64 }
     ensures { result ≡ member s p }
@@ -84,6 +120,7 @@ pub fn has(s: u64, p: u8) -> bool
     (s >> p) % 2 == 1
 }
 
+#[tactic(auto, unfolding(crate::specs::Sets::insert))]
 pub fn with(s: u64, p: u8) -> u64
     requires { p < 64 }
     ensures { result ≡ insert s p }
@@ -91,6 +128,7 @@ pub fn with(s: u64, p: u8) -> u64
     s | worth(p)
 }
 
+#[tactic(auto, using(crate::proofs::Sets::remove_and))]
 pub fn without(s: u64, p: u8) -> u64
     requires { p < 64 }
     ensures { result ≡ remove s p }

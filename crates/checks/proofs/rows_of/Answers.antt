@@ -1,16 +1,10 @@
-use Rattle.checks.specs.Rows.{rows_from}
+use mathlib.Core.Path.{refl}
+use borrow.Author.Rules.{rules}
+use Rattle.model.specs.Policy.{fixed_by}
+use Rattle.checks.proofs.Rows.{rows_made}
 use Rattle.checks.proofs.rows_of.Goals as goal
 
 pub returns : goal.returns
-unfolding rows_from
 returns c =
-    rw (
-      c.row_of.ensures,
-      c.row_of-2.ensures,
-      c.row_of-3.ensures,
-      c.row_of-4.ensures,
-      c.row_of-5.ensures,
-      c.row_of-6.ensures,
-      c.row_of-7.ensures,
-      c.row_of-8.ensures,
-    )
+    let items = c.from_fn.ensures.items in
+    rows_made _ _ (fixed_by c.args.policy.now) (λ k row left l called. search rules) _ items.long 8 0 refl items.each

@@ -1,33 +1,6 @@
-use mathlib.Core.Path.{refl, ap, sym, ◌∙◌}
 use native.Mathlib.Omega.{arith}
-use Rattle.device.specs.Answers.{refused}
-use Rattle.checks.proofs.Finding.{part_none, part_slot, found_place}
+use Rattle.checks.proofs.Finding.{placed}
 use Rattle.checks.proofs.suite_record.Goals as goal
 
-pub returns-then-refused : goal.returns-then-refused
-returns-then-refused c =
-    let a = c.args in
-    rw (part_none a.policy.now a.state.now a.suite (ap refused (sym c.find-found.ensures)
-    ∙ sym c.refused-refused.ensures ∙ c.if-refused.true))
-    (record { block = refl; start = omega arith; bytes = refl })
-
-pub place_of-requires : goal.place_of-requires
-place_of-requires c =
-    let a = c.args in
-    (found_place a.policy.now a.state.now a.suite (ap refused (sym c.find-found.ensures) ∙ sym c.refused-refused.ensures ∙ c.if-refused.false)).0
-
 pub slot_part-requires : goal.slot_part-requires
-slot_part-requires c =
-    let a = c.args in
-    let (n, l) = found_place a.policy.now a.state.now a.suite
-    (ap refused (sym c.find-found.ensures) ∙ sym c.refused-refused.ensures ∙ c.if-refused.false) in
-    (n, rw c.place_of.ensures l)
-
-pub returns : goal.returns
-returns c =
-    let a = c.args in
-    rw (
-      part_slot a.policy.now a.state.now a.suite (ap refused (sym c.find-found.ensures)
-          ∙ sym c.refused-refused.ensures ∙ c.if-refused.false),
-      ← c.place_of.ensures,
-    ) c.slot_part.ensures
+slot_part-requires c = let a = c.args in omega (arith, placed a.policy.now a.state.now a.suite c.in-Ok.ensures)

@@ -1,4 +1,5 @@
 use mathlib.Core.Path.{sym}
+use borrow.Author.Rules.{rules}
 use Rattle.words.specs.Numbers.{bytes_of}
 use Rattle.words.proofs.Stores.{sets_whole}
 use Rattle.model.specs.Events.{field_bytes}
@@ -10,13 +11,13 @@ pub returns : goal.returns
 unfolding field_bytes bytes_of
 returns c =
     rw (
-      c.write64-2.ensures,
-      c.write64.ensures,
-      c.write16-2.ensures,
-      c.write8-4.ensures,
-      c.write8-3.ensures,
-      c.write16.ensures,
-      c.write8-2.ensures,
-      c.write8.ensures,
+      c.write-8.ensures.bytes,
+      c.write-7.ensures.bytes,
+      c.write-6.ensures.bytes,
+      c.write-5.ensures.byte,
+      c.write-4.ensures.byte,
+      c.write-3.ensures.bytes,
+      c.write-2.ensures.byte,
+      c.write.ensures.byte,
     )
-    (sets_whole c.args.bytes.now (field_bytes c.args.f) (sym c.requires))
+    (sets_whole c.args.bytes.now (field_bytes c.args.f) (sym (search rules)))

@@ -1,16 +1,25 @@
-use mathlib.Core.Path.{sym, ap, ◌∙◌}
-use native.Mathlib.Omega.{arith}
+use Rattle.std.proofs.Common.{arith, sym, ap, ◌∙◌}
+use Rattle.model.specs.Events.{fields_at}
 use Rattle.model.specs.Calls.{reading}
+use Rattle.events.specs.Fields.{same_fields}
 use Rattle.events.proofs.Laws.{read_numbers, read_other}
 use Rattle.events.proofs.read_event.Goals as goal
 
-pub returns-then-not-sized : goal.returns-then-not-sized
-returns-then-not-sized c = ap reading (sym (read_other c.args.bytes.now c.if-not-sized.true))
+pub returns-in_default : goal.returns-in_default
+returns-in_default c = ap reading (sym (read_other c.args.bytes.now c.in_default.ensures.cases))
+
+pub returns-then-not-good : goal.returns-then-not-good
+unfolding same_fields
+returns-then-not-good c =
+    let whole = c.in-Some.ensures.cases in
+    let read = read_numbers c.args.bytes.now (λ k. omega (arith, c.type_inv.bytes k)) whole.long
+    (c.fields_at-numbers.ensures ∙ ap fields_at whole.same) c.event_of-event.ensures c.fits.ensures c.fields_of.ensures c.eq.ensures in
+    ap reading (rw c.if-not-good.true at read)
 
 pub returns : goal.returns
+unfolding same_fields
 returns c =
-    ap reading (c.where_good.ensures
-    ∙ read_numbers c.args.bytes.now (λ k. omega (arith, c.shared_slice_known-1.given k))
-    c.if-not-sized.false
-    c.fields_at-f.ensures c.event_of-e.ensures c.fits.ensures
-    c.fields_of.ensures c.same.ensures)
+    let whole = c.in-Some.ensures.cases in
+    let read = read_numbers c.args.bytes.now (λ k. omega (arith, c.type_inv.bytes k)) whole.long
+    (c.fields_at-numbers.ensures ∙ ap fields_at whole.same) c.event_of-event.ensures c.fits.ensures c.fields_of.ensures c.eq.ensures in
+    ap reading (rw c.if-not-good.false at read)

@@ -1,16 +1,11 @@
-use mathlib.Core.Path.{◌≡◌, ap, ◌∙◌}
-use Prim.Native.Nat.{◌+◌, ◌*◌, ◌-◌}
-use native.Mathlib.Omega.{arith}
-use Rattle.monitor.proofs.Laws.{read_named}
+use Rattle.std.proofs.Common.{rules, ◌≡◌, ◌+◌, ◌*◌, ◌-◌, arith, ap, ◌∙◌}
 use Rattle.monitor.proofs.turn.Goals as goal
 
-pub step-done-requires : goal.step-done-requires
-step-done-requires c =
-    (c.requires.0, c.requires.1, rw (ap (λ r. r.event) c.read_event-event.ensures) (read_named _))
-
-pub returns : goal.returns
-returns c =
+pub returns-clause-turned : goal.returns-clause-turned
+returns-clause-turned c =
     let i = c.args.i in
     let n : 24 * i + 24 - 24 * i ≡ 24 = omega arith in
-    let done = rw (ap (λ r. r.event) c.read_event-event.ensures, n) at c.step-done.ensures in
-    record { state = done.0.state; output = c.put_answer.ensures ∙ rw done.0.response; place = done.1 }
+    let read = ap (λ r. r.event) c.read_event-event.ensures in
+    let did = rw (read, n) at c.step-outcome.ensures.did in
+    let place = rw (read, n) at c.step-outcome.ensures.place in
+    record { state = did.state; output = c.put_answer.ensures ∙ rw (c.from.ensures, did.response); place = place }

@@ -20,10 +20,10 @@ returns c =
     let u5 = u4 ++ bytes_of 8 x.descriptor.required in
     let u6 = u5 ++ bytes_of 8 x.descriptor.optional in
     let u7 = u6 ++ bytes_of 8 x.decisions.granted in
-    let e2 = sets_next l i u1 (x.domain.0 ∷ []) c.write16.ensures c.write8.ensures in
-    let e3 = sets_next l i u2 (0 ∷ []) e2 c.write8-2.ensures in
-    let e4 = sets_next l i u3 (bytes_of 4 0) e3 c.write32.ensures in
-    let e5 = sets_next l i u4 (bytes_of 8 x.descriptor.required) e4 c.write64.ensures in
-    let e6 = sets_next l i u5 (bytes_of 8 x.descriptor.optional) e5 c.write64-2.ensures in
-    let e7 = sets_next l i u6 (bytes_of 8 x.decisions.granted) e6 c.write64-3.ensures in
-    sets_next l i u7 (bytes_of 8 x.decisions.revoked) e7 c.write64-4.ensures
+    let e2 = sets_next l i u1 (x.domain.0 ∷ []) c.write.ensures.bytes c.write-2.ensures.byte in
+    let e3 = sets_next l i u2 (0 ∷ []) e2 c.write-3.ensures.byte in
+    let e4 = sets_next l i u3 (bytes_of 4 0) e3 c.write-4.ensures.bytes in
+    let e5 = sets_next l i u4 (bytes_of 8 x.descriptor.required) e4 c.write-5.ensures.bytes in
+    let e6 = sets_next l i u5 (bytes_of 8 x.descriptor.optional) e5 c.write-6.ensures.bytes in
+    let e7 = sets_next l i u6 (bytes_of 8 x.decisions.granted) e6 c.write-7.ensures.bytes in
+    sets_next l i u7 (bytes_of 8 x.decisions.revoked) e7 c.write-8.ensures.bytes

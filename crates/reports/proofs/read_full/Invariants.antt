@@ -1,9 +1,0 @@
-use Prim.Native.Nat.{◌-◌, ◌≤◌}
-use lib.ListN.{length}
-use Rattle.reports.proofs.read_full.Given as goal
-
-abbrev pub invariant-loop-size : goal.invariant-loop-size
-invariant-loop-size g l = l.size ≤ length l.bytes
-
-abbrev pub decreases-loop-size : goal.decreases-loop-size
-decreases-loop-size g l = length l.initial.bytes - l.size
