@@ -133,6 +133,7 @@ fn rows_of(policy: &[u8]) -> [Row; DOMAIN_COUNT]
 
 // ---- a slot
 
+// The row of x's domain is looked up once, and goes with x to each of the tests.
 #[tactic(auto, using(crate::proofs::Slots::sound_free, crate::proofs::Slots::sound_astray))]
 fn slot_sound(x: Slot, row: Row) -> bool
     ensures { (f : Fixed) → RowIs f x.domain row → result ≡ slot_sound f x }
@@ -143,7 +144,7 @@ fn slot_sound(x: Slot, row: Row) -> bool
     x.domain.in_range() && within(x.descriptor.required, row.offered)
 }
 
-// No lower slot than k has the number.
+// No lower slot than k has the number. `k < slot_count` is no type: k counts in `for k in 0..SLOT_COUNT`.
 #[tactic(auto, unfolding(model::specs::Valid::among, crate::specs::Walk::lower_of), using(crate::proofs::Slots::lower_next))]
 fn own_number(state: &[u8; store::STATE_SIZE], k: usize, suite: Suite) -> bool
     requires { k < slot_count }
@@ -154,7 +155,7 @@ fn own_number(state: &[u8; store::STATE_SIZE], k: usize, suite: Suite) -> bool
     }
     let mut seen = false;
     for j in 0..k {
-        seen |= u16::read(state, store::RECORD_SIZE + store::RECORD_SIZE * j) == suite.0;
+        seen |= Suite(u16::read(state, store::RECORD_SIZE + store::RECORD_SIZE * j)) == suite;
     }
     !seen
 }

@@ -8,7 +8,7 @@ ghost use Rattle.device.specs.UserAnswers.{answer_no, answer_of};
 ghost use Rattle.device.specs.Empty.{undecided, free, idle};
 ghost use Rattle.device.specs.Answers.{plain, answering, refusing, done, answered};
 
-// 000's three sets (3.1), kept apart: a suite's number, 0 for no suite; a permission's; a domain's.
+// 000's three sets (3.1), kept apart: a suite's number, 0 for no suite, as in the stored bytes; a permission's; a domain's.
 #[derive(Clone, Copy, PartialEq, Eq)]
 pub struct Suite(pub u16);
 
@@ -19,7 +19,7 @@ pub struct Permission(pub u8);
 pub struct Domain(pub u8);
 
 // How long a user's decision holds: for one use, for the session, until the suite is removed.
-#[derive(Clone, Copy, PartialEq, Eq)]
+#[derive(Clone, Copy, PartialEq, Eq, PartialOrd, Ord)]
 pub enum Mode {
     Oneshot,
     Session,
@@ -34,7 +34,7 @@ pub enum UserAnswer {
     Deny(Mode),
 }
 
-// The decision that stands on a permission, for the session or for good.
+// The decision that stands on a permission, for the session or for good: three values, as the definitions have it.
 #[derive(Clone, Copy, PartialEq, Eq)]
 pub enum Standing {
     Nothing,
@@ -138,6 +138,7 @@ pub const ROW_SIZE: usize = Permission::COUNT as usize;
 // The highest cell, which allows and has nobody asked.
 pub const ALLOWING: u8 = 4;
 
+// A cell is a byte: what is said of it is said of every byte.
 pub fn offered(cell: u8) -> bool
     ensures { result ≡ offered cell }
 {
@@ -298,7 +299,6 @@ impl Response {
     }
 }
 
-// Each number stands here once.
 impl From<Answer> for Response {
     ghost from_gives = { λ answer response. response ≡ answering answer };
 
@@ -315,7 +315,7 @@ impl From<Answer> for Response {
     }
 }
 
-// The number and the detail apart: the machine code then has no jump by the case.
+// Each number stands once, above and here. The number and the detail apart: the machine code then has no jump by the case.
 impl Refusal {
     fn number(self) -> u8
         ensures { result ≡ (refusing self).number }

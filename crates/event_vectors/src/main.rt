@@ -40,14 +40,6 @@ fn request() -> [u8; 24] {
     made(5, 0, 0, 3, 2)
 }
 
-fn print(rt: &impl Print, n: u8) -> io::Result<()> {
-    print!(rt; " {n}")
-}
-
-fn line(rt: &impl Print, label: &str) -> io::Result<()> {
-    print!(rt; "\n{label}")
-}
-
 // 18 for bytes that are no event; 0 for a record that is read and written back the same, and 99 for one that is not.
 fn through(bytes: &[u8]) -> u8 {
     let mut back = [7u8; 24];
@@ -60,11 +52,11 @@ fn through(bytes: &[u8]) -> u8 {
 
 // A record with a byte stored at each of its 24 places in turn.
 fn damaged(rt: &impl Print, label: &str, good: [u8; 24], byte: u8) -> io::Result<()> {
-    line(rt, label)?;
+    print!(rt; "\n{label}")?;
     for place in 0..good.len() {
         let mut bad = good;
         bad[place] = byte;
-        print(rt, through(&bad))?;
+        print!(rt; " {}", through(&bad))?;
     }
     Ok(())
 }
@@ -76,7 +68,7 @@ fn edge(rt: &impl Print, good: [u8; 24], at: usize, low: u8, high: u8) -> io::Re
     let mut r = good;
     r[at] = low;
     r[at + 1] = high;
-    print(rt, through(&r))?;
+    print!(rt; " {}", through(&r))?;
     Ok(())
 }
 
@@ -87,9 +79,15 @@ fn response_number(outcome: Result<(), Refusal>) -> u8 {
 // The number of a write into 24 bytes, and of one into 23.
 fn written(rt: &impl Print, event: Event) -> io::Result<()> {
     let mut whole = [7u8; 24];
-    print(rt, response_number(events::write_event(event, &mut whole)))?;
+    print!(rt;
+        " {}",
+        response_number(events::write_event(event, &mut whole))
+    )?;
     let mut short = [7u8; 23];
-    print(rt, response_number(events::write_event(event, &mut short)))?;
+    print!(rt;
+        " {}",
+        response_number(events::write_event(event, &mut short))
+    )?;
     Ok(())
 }
 
@@ -108,36 +106,30 @@ fn damages(rt: &impl Print) -> io::Result<()> {
 }
 
 fn sizes(rt: &impl Print) -> io::Result<()> {
-    line(rt, "0, 23, 24 and 25 bytes:")?;
+    print!(rt; "\n0, 23, 24 and 25 bytes:")?;
     let mut whole = [0u8; 24];
     whole[0] = 4;
     let long = [4u8; 25];
-    print(rt, through(&whole[..0]))?;
-    print(rt, through(&whole[..23]))?;
-    print(rt, through(&whole))?;
-    print(rt, through(&long))?;
+    print!(rt; " {}", through(&whole[..0]))?;
+    print!(rt; " {}", through(&whole[..23]))?;
+    print!(rt; " {}", through(&whole))?;
+    print!(rt; " {}", through(&long))?;
     Ok(())
 }
 
 fn reads(rt: &impl Print) -> io::Result<()> {
-    line(
-        rt,
-        "an install with kind and domain 0 2, 6 2, 1 0, 1 7, 1 8:",
-    )?;
+    print!(rt; "\nan install with kind and domain 0 2, 6 2, 1 0, 1 7, 1 8:")?;
     edge(rt, install(), 0, 0, 2)?;
     edge(rt, install(), 0, 6, 2)?;
     edge(rt, install(), 0, 1, 0)?;
     edge(rt, install(), 0, 1, 7)?;
     edge(rt, install(), 0, 1, 8)?;
-    line(rt, "a start of suite 0, 1, 256, 65535:")?;
+    print!(rt; "\na start of suite 0, 1, 256, 65535:")?;
     edge(rt, start(), 2, 0, 0)?;
     edge(rt, start(), 2, 1, 0)?;
     edge(rt, start(), 2, 0, 1)?;
     edge(rt, start(), 2, 255, 255)?;
-    line(
-        rt,
-        "a request with permission and answer 0 0, 63 6, 64 6, 63 7:",
-    )?;
+    print!(rt; "\na request with permission and answer 0 0, 63 6, 64 6, 63 7:")?;
     edge(rt, request(), 4, 0, 0)?;
     edge(rt, request(), 4, 63, 6)?;
     edge(rt, request(), 4, 64, 6)?;
@@ -151,24 +143,17 @@ fn writes(rt: &impl Print) -> io::Result<()> {
         optional: 1,
     };
     let no = UserAnswer::Deny(Mode::Blanket);
-    line(
-        rt,
-        "an install of suite 65535 in domain 7, 0 in 7, 1 in 8, into 24 and 23 bytes:",
-    )?;
+    print!(rt; "\nan install of suite 65535 in domain 7, 0 in 7, 1 in 8, into 24 and 23 bytes:")?;
     written(rt, Event::Install(Suite(65535), both, Domain(7)))?;
     written(rt, Event::Install(Suite(0), both, Domain(7)))?;
     written(rt, Event::Install(Suite(1), both, Domain(8)))?;
-    line(
-        rt,
-        "a remove of 65535, of 0, a start of 1, of 0, into 24 and 23 bytes:",
-    )?;
+    print!(rt; "\na remove of 65535, of 0, a start of 1, of 0, into 24 and 23 bytes:")?;
     written(rt, Event::Remove(Suite(65535)))?;
     written(rt, Event::Remove(Suite(0)))?;
     written(rt, Event::Start(Suite(1)))?;
     written(rt, Event::Start(Suite(0)))?;
-    line(
-        rt,
-        "a request of 63, of 64, a terminate, an unreadable event, into 24 and 23 bytes:",
+    print!(rt;
+        "\na request of 63, of 64, a terminate, an unreadable event, into 24 and 23 bytes:"
     )?;
     written(rt, Event::Request(Permission(63), no))?;
     written(rt, Event::Request(Permission(64), no))?;

@@ -11,7 +11,8 @@ use words::Word;
 
 pub const EVENT_SIZE: usize = 24;
 
-// The event that a record's numbers may say. No `From`: both types are `device`'s, below the definition.
+// The event that a record's numbers may say. No `From`, here or below: a type of this crate around `Fields` would be made and
+// opened at each call.
 #[tactic(auto, unfolding(model::specs::Events::event_of))]
 fn event_of(f: Fields) -> Event
     ensures { result ≡ event_of f }

@@ -19,7 +19,7 @@ const LENGTH: u64 = 4294967296;
 
 const RECORD_SIZE: u64 = store::RECORD_SIZE as u64;
 
-// No `From`: neither type is this crate's.
+// No `From`: a type of this crate around the number would be opened at each call.
 fn pack(response: Response) -> u32
     ensures { result ≡ packed response }
 {
@@ -114,7 +114,7 @@ pub extern "C" fn tm_find(policy: &[u8], state: &[u8], suite: u16) -> u32
     pack(monitor::find(policy, state, Suite(suite)).into())
 }
 
-// The record of slot k: `offset | length << 32`.
+// The record of slot k, as `checks::place` bounds it: `offset | length << 32`.
 fn slot_part(k: usize) -> u64
     requires { k < slot_count }
     ensures { result ≡ packed_part (record { from = record_size * suc k; size = record_size }) }

@@ -115,3 +115,7 @@ module _ (policy b : List ℕ) (refusal : Refusal) (bad : refusing refusal ≡ c
 
   pub run_fails : (es out : List ℕ) → counted (refusing refusal) 0 b out ≡ run_call policy b es out
   run_fails es out = rw bad (run_refused policy b es out fails)
+
+pub ruleset step_laws = (step_fails, done_size, done_formed, named_read, done_step)
+
+pub ruleset run_laws = (run_fails, done_size, done_formed, done_uneven, done_run, fit_parts)

@@ -88,7 +88,7 @@ fn step_once(policy: &[u8], state: &mut [u8; STATE_SIZE], event: Event) -> Resul
 }
 
 // One event: 16, 17, 18, then by event.
-#[tactic(auto, using(crate::proofs::Laws::step_fails, crate::proofs::Laws::done_size, crate::proofs::Laws::done_formed, crate::proofs::Laws::named_read, crate::proofs::Laws::done_step))]
+#[tactic(auto, using(crate::proofs::Laws::step_laws))]
 pub fn step(policy: &[u8], state: &mut [u8], bytes: &[u8]) -> Result<Answer, Refusal>
     ensures { leaving state.new (answered result) ≡ step_call policy.now state.old bytes.now }
 {
@@ -150,7 +150,7 @@ fn run_events(policy: &[u8], state: &mut [u8; STATE_SIZE], records: &[u8], out: 
 }
 
 // Every event, one after another: 16, 17, 30, else every event answered in its own two bytes, and their number.
-#[tactic(auto, using(crate::proofs::Laws::run_fails, crate::proofs::Laws::done_size, crate::proofs::Laws::done_formed, crate::proofs::Laws::done_uneven, crate::proofs::Laws::done_run, crate::proofs::Laws::fit_parts))]
+#[tactic(auto, using(crate::proofs::Laws::run_laws))]
 pub fn run(
     policy: &[u8],
     state: &mut [u8],

@@ -4,7 +4,7 @@
 ghost use Rattle.std.specs.Prelude.{IfOk, ◌≡◌, ◌++◌, ◌+◌, ◌*◌, ◌<◌, ◌≤◌, length};
 ghost use Rattle.device.specs.Answers.{refusing};
 ghost use Rattle.model.specs.Calls.{answer_size};
-ghost use Rattle.reports.specs.Text.{ascii, line, lines, closing, text_of, report_text};
+ghost use Rattle.reports.specs.Text.{ascii, line, lines, closing, report_text};
 ghost use Rattle.reports.specs.Text.{most_events, made, text_call};
 ghost use Rattle.reports.specs.Steps.{room_for, TextOfFiles, Printed, Wrote};
 
@@ -63,7 +63,7 @@ fn closing(word: &str, number: usize) -> Line
     closing
 }
 
-// The lines of the events that are counted, and the last line.
+// The lines of the events that are counted, and the last line, which has the count.
 #[tactic(auto, using(crate::proofs::Texts::counted_pairs), unfolding(crate::specs::Text::lines, crate::specs::Text::ascii))]
 fn listing(count: usize, answers: &[u8]) -> Text
     requires { (count ≤ most_events) × (answer_size * count ≤ length answers.now) }

@@ -49,7 +49,7 @@ fn given(u: UserAnswer) -> bool
 fn admits(cell: u8, m: Mode) -> bool
     ensures { result ≡ admits cell m }
 {
-    Mode::highest(cell).is_some_and(|most| u8::from(m) <= u8::from(most))
+    Mode::highest(cell).is_some_and(|most| m <= most)
 }
 
 // A denial has no bound.

@@ -2,8 +2,6 @@
 // held to the file stdout.
 #![tactic(auto)]
 
-ghost use Rattle.std.specs.Prelude.{◌≤◌};
-
 use device::{Response, Suite};
 use std::{array, io};
 
@@ -48,16 +46,8 @@ fn good() -> [u8; 1320] {
     b
 }
 
-fn print(rt: &impl Print, n: u8) -> io::Result<()> {
-    print!(rt; " {n}")
-}
-
-fn line(rt: &impl Print, label: &str) -> io::Result<()> {
-    print!(rt; "\n{label}")
-}
-
 fn checked(rt: &impl Print, policy: &[u8], state: &[u8]) -> io::Result<()> {
-    print(rt, Response::from(checks::check(policy, state)).number)
+    print!(rt; " {}", Response::from(checks::check(policy, state)).number)
 }
 
 // Each byte in turn with the bits of x turned over, a line for each record.
@@ -66,8 +56,8 @@ fn damaged(rt: &impl Print, x: u8) -> io::Result<()> {
     let good = good();
     for (k, byte) in good.iter().enumerate() {
         if k % 40 == 0 {
-            line(rt, "record")?;
-            print(rt, (k / 40) as u8)?;
+            print!(rt; "\nrecord")?;
+            print!(rt; " {}", (k / 40) as u8)?;
             print!(rt; ":")?;
         }
         let mut bad = good;
@@ -80,15 +70,12 @@ fn damaged(rt: &impl Print, x: u8) -> io::Result<()> {
 fn sizes(rt: &impl Print) -> io::Result<()> {
     let cells = [1u8; 513];
     let zeros = [0u8; 1321];
-    line(rt, "a state of 0, 1319, 1320 and 1321 bytes:")?;
+    print!(rt; "\na state of 0, 1319, 1320 and 1321 bytes:")?;
     checked(rt, &cells[..512], &zeros[..0])?;
     checked(rt, &cells[..512], &zeros[..1319])?;
     checked(rt, &cells[..512], &zeros[..1320])?;
     checked(rt, &cells[..512], &zeros)?;
-    line(
-        rt,
-        "a policy of 0, 511 and 513 bytes, and of 513 with a bad state:",
-    )?;
+    print!(rt; "\na policy of 0, 511 and 513 bytes, and of 513 with a bad state:")?;
     checked(rt, &cells[..0], &zeros[..1320])?;
     checked(rt, &cells[..511], &zeros[..1320])?;
     checked(rt, &cells, &zeros[..1320])?;
@@ -104,7 +91,7 @@ fn cells(rt: &impl Print) -> io::Result<()> {
     last[511] = 5;
     let mut odd = policy();
     odd[511] = 4;
-    line(rt, "a cell of 5 first, last, and one of 4 last:")?;
+    print!(rt; "\na cell of 5 first, last, and one of 4 last:")?;
     checked(rt, &first, &state)?;
     checked(rt, &last, &state)?;
     checked(rt, &odd, &state)?;
@@ -116,8 +103,8 @@ fn found(rt: &impl Print, suite: u16) -> io::Result<()> {
     let policy = policy();
     let state = good();
     let found = checks::find(&policy, &state, Suite(suite));
-    line(rt, "find:")?;
-    print(rt, Response::from(found).number)?;
+    print!(rt; "\nfind:")?;
+    print!(rt; " {}", Response::from(found).number)?;
     print!(rt; ", the part:")?;
     bytes(rt, checks::suite_record(&policy, &state, Suite(suite)))?;
     Ok(())
@@ -125,13 +112,13 @@ fn found(rt: &impl Print, suite: u16) -> io::Result<()> {
 
 fn bytes(rt: &impl Print, part: &[u8]) -> io::Result<()> {
     for byte in part {
-        print(rt, *byte)?;
+        print!(rt; " {}", *byte)?;
     }
     Ok(())
 }
 
 fn finds(rt: &impl Print) -> io::Result<()> {
-    line(rt, "suites 10, 258, 65535, 0, 1 and 255:")?;
+    print!(rt; "\nsuites 10, 258, 65535, 0, 1 and 255:")?;
     found(rt, 10)?;
     found(rt, 258)?;
     found(rt, 65535)?;
@@ -144,11 +131,11 @@ fn finds(rt: &impl Print) -> io::Result<()> {
 fn main(rt: HostRuntime) -> io::Result<()> {
     let rt = &rt;
     print!(rt; "Stored states: what check answers")?;
-    line(rt, "bit 1 of each byte turned over:")?;
+    print!(rt; "\nbit 1 of each byte turned over:")?;
     damaged(rt, 1)?;
-    line(rt, "bit 16 of each byte turned over:")?;
+    print!(rt; "\nbit 16 of each byte turned over:")?;
     damaged(rt, 16)?;
-    line(rt, "every bit of each byte turned over:")?;
+    print!(rt; "\nevery bit of each byte turned over:")?;
     damaged(rt, 255)?;
     sizes(rt)?;
     cells(rt)?;

@@ -1,12 +1,11 @@
 -- A request by what the code tests, and that the running suite's slot keeps its place. Assumes nothing.
 use Rattle.std.specs.Prelude.{Option}
-use Rattle.std.proofs.Common.{◌≡◌, refl, ap, sym, ◌∙◌, ℕ, Bool, true, false, not, ◌||◌, cond, List, slice_index_or, arith, Some, None, Ok, Err}
+use Rattle.std.proofs.Common.{◌≡◌, refl, ap, sym, ◌∙◌, ℕ, Bool, true, false, not, ◌||◌, cond, List, arith, Some, None, Ok, Err}
 use lib.ListN.{get_or, get_or-eq_default}
 use mathlib.Core.Bool.{false≢true}
 use lib.Dec.{ltb}
 use borrow.Author.Tests.{eq-eqb, ne_eqb, ltb-true}
 use Rattle.words.proofs.Sets.{member_none}
-use Rattle.device.specs.declared.Suite.{Suite}
 use Rattle.device.specs.declared.Permission.{Permission}
 use Rattle.device.specs.declared.Mode.{Mode}
 use Rattle.device.specs.declared.Mode.TheVariants.{Oneshot, Session as ForSession, Blanket}
@@ -24,9 +23,9 @@ use Rattle.device.specs.declared.Response.{Response}
 use Rattle.device.specs.Device.{no_suite, same_suite}
 use Rattle.device.specs.Empty.{undecided, free}
 use Rattle.device.specs.Answers.{refused, refusing, DONE, NO_SESSION, BUSY, NOT_INSTALLED, NOT_DECLARED}
-use Rattle.device.proofs.Responses.{refusal_refused}
+use Rattle.device.proofs.Responses.{answer_taken, refusal_refused}
 use Rattle.model.specs.Policy.{Fixed}
-use Rattle.model.specs.State.{State, with_session, carries, place, slots_from, read_state}
+use Rattle.model.specs.State.{State, with_session, carries, place, read_state}
 use Rattle.model.specs.Valid.{declared}
 use Rattle.model.specs.Decision.{standing, decision, grant, revoke}
 use Rattle.model.specs.Step.{Outcome, answer, in_session, running_slot, slot_deciding, judged, request, keep, enter, step}
@@ -108,6 +107,8 @@ module _ (f : Fixed) (b : List ℕ) (p : Permission) (u : UserAnswer) {r : Sessi
 pub keep_slot : (s : State) (g : Decisions → Decisions) (k : ℕ) → k ≡ running_place s
     → with_slot k (slot_deciding g (running_slot s)) s ≡ keep Blanket g s
 keep_slot s g k at = rw (at, amend_place s.session.suite (slot_deciding g) s.slots)
+
+pub ruleset answers = (found_some, found_none, find_place, answer_taken, refusal_refused)
 
 -- ---- the place that an event hands on is known in the state that it leaves
 

@@ -27,7 +27,7 @@ pub use terminal::Terminal;
 fn cell(policy: &[u8], domain: Domain, p: Permission) -> u8
     ensures { result ≡ (fixed_by policy.now).cell domain p }
 {
-    let i = device::ROW_SIZE * domain.0 as usize + p.0 as usize;
+    let i = device::ROW_SIZE * usize::from(domain.0) + usize::from(p.0);
     policy.get(i).copied().unwrap_or(0)
 }
 
@@ -65,7 +65,7 @@ fn running_at(state: &[u8; STATE_SIZE], known: Option<usize>, running: Suite) ->
 }
 
 impl Terminal<'_> {
-    #[tactic(auto, unfolding(model::specs::Step::step, crate::specs::Did::lacking_one), using(store::proofs::Places::carries_found, store::proofs::Places::carries_not_found, model::proofs::Slots::amend_place))]
+    #[tactic(auto, unfolding(model::specs::Step::step, crate::specs::Did::lacking_one), using(store::proofs::Places::carries_rules, model::proofs::Slots::amend_place))]
     fn install(&mut self, i: Suite, x: Descriptor, domain: Domain) -> Result<Answer, Refusal>
         ensures { Carried self.old self.new (Install i x domain) (answered result) }
     {
@@ -90,7 +90,7 @@ impl Terminal<'_> {
         Ok(Answer::Done)
     }
 
-    #[tactic(auto, unfolding(model::specs::Step::step), using(store::proofs::Places::carries_found, store::proofs::Places::carries_not_found, model::proofs::Slots::amend_place))]
+    #[tactic(auto, unfolding(model::specs::Step::step), using(store::proofs::Places::carries_rules, model::proofs::Slots::amend_place))]
     fn remove(&mut self, i: Suite) -> Result<Answer, Refusal>
         ensures { Carried self.old self.new (Remove i) (answered result) }
     {
@@ -103,7 +103,7 @@ impl Terminal<'_> {
         Ok(Answer::Done)
     }
 
-    #[tactic(auto, unfolding(model::specs::Step::step), using(store::proofs::Places::carries_found, store::proofs::Places::carries_not_found))]
+    #[tactic(auto, unfolding(model::specs::Step::step), using(store::proofs::Places::carries_rules))]
     fn start(&mut self, i: Suite) -> Result<Answer, Refusal>
         ensures { Carried self.old self.new (Start i) (answered result) }
     {
@@ -185,7 +185,7 @@ impl Terminal<'_> {
     }
 
     // The one look-up of a standing decision: in the session, and in the running suite's own slot, which has its number.
-    #[tactic(auto, unfolding(model::specs::Step::step, model::specs::Step::request, model::specs::Step::judged), using(store::proofs::Places::found_some, store::proofs::Places::found_none, model::proofs::Slots::find_place, device::proofs::Responses::answer_taken, device::proofs::Responses::refusal_refused))]
+    #[tactic(auto, unfolding(model::specs::Step::step, model::specs::Step::request, model::specs::Step::judged), using(crate::proofs::Requests::answers))]
     fn request(&mut self, p: Permission, u: UserAnswer) -> Result<Answer, Refusal>
         requires { p.0 < permission_count }
         ensures { Carried self.old self.new (Request p u) (answered result) }

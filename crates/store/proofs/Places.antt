@@ -52,6 +52,8 @@ pub carries_not_found : (b : List ℕ) (i : Suite) → None ≡ found (place i (
     → carries i (read_state b).slots ≡ false
 carries_not_found b i e = carries_below b i ∙ le-ltb _ 32 (found_none e)
 
+pub ruleset carries_rules = (carries_found, carries_not_found)
+
 -- ---- the search
 
 module _ (b : List ℕ) (i : Suite) (k : ℕ) where

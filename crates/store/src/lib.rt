@@ -78,7 +78,7 @@ pub fn read_session(state: &[u8; STATE_SIZE]) -> Session
     }
 }
 
-// Slot k, from 0; a free one where there is none.
+// Slot k, from 0; a free one where there is none, and no `Option`: it can't fail, and its clause says so of every k.
 #[tactic(auto, using(crate::proofs::Records::slot_reads), unfolding(model::specs::State::read_state))]
 pub fn read_slot(state: &[u8; STATE_SIZE], k: usize) -> Slot
     ensures { result ≡ get_or (read_state state.now).slots k free }
@@ -89,7 +89,7 @@ pub fn read_slot(state: &[u8; STATE_SIZE], k: usize) -> Slot
     slot_at(state, RECORD_SIZE + RECORD_SIZE * k)
 }
 
-// `WellFormed` is a clause and no type: the bytes are the caller's, and are changed where they lie.
+// `WellFormed` is a clause here: a type that held the bytes would stand inside `Terminal`, which has it as a field.
 pub fn write_session(state: &mut [u8; STATE_SIZE], r: Session)
     requires { WellFormed state.old }
     ensures { Holds state.new (with_session r (read_state state.old)) }
@@ -97,7 +97,7 @@ pub fn write_session(state: &mut [u8; STATE_SIZE], r: Session)
     put_session(state, r);
 }
 
-// Slot k, from 0; nothing where there is none.
+// Slot k, from 0; nothing where there is none, as its clause says of every k.
 #[tactic(auto, using(crate::proofs::Holding::hold_none))]
 pub fn write_slot(state: &mut [u8; STATE_SIZE], k: usize, x: Slot)
     requires { WellFormed state.old }

@@ -6,7 +6,8 @@ ghost use Rattle.std.proofs.lemmas.List.Edits.{sets};
 ghost use Rattle.words.specs.Numbers.{le_at, bytes_of};
 ghost use Rattle.words.specs.Sets.{member, insert, remove};
 
-// A number that lies in lent bytes. The compiler makes one load or store of each call.
+// A number that lies in lent bytes. The compiler makes one load or store of each call. The bytes that are read are listed, since of a
+// part that is made an array the check does not see them.
 pub trait Word: Copy {
     // how many bytes it has
     ghost width: { ℕ };

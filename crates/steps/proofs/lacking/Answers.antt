@@ -3,7 +3,6 @@ use borrow.Author.Tests.{lt-ltb, le-ltb}
 use Rattle.words.proofs.Search.{first_from_go, first_from_stop, first_from_done}
 use Rattle.device.specs.declared.Domain.{Domain}
 use Rattle.device.specs.declared.Descriptor.{Descriptor}
-use Rattle.device.specs.declared.Permission.{Permission}
 use Rattle.device.specs.Device.{lowest}
 use Rattle.model.specs.Policy.{Fixed}
 use Rattle.model.specs.Step.{lacking}
