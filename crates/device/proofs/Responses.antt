@@ -71,14 +71,17 @@ refusal_known AnswerNotAsked = refl
 refusal_known (ModeTooWide cell) = refl
 refusal_known BadLength = refl
 
+pub refusal_one : (a b : Refusal) → refusing a ≡ refusing b → a ≡ b
+refusal_one a b e = sym (refusal_known a) ∙ ap refusal_by e ∙ refusal_known b
+
 pub answered_one : (r r' : Result Answer Refusal) → answered r ≡ answered r' → r ≡ r'
 answered_one (Ok a) (Ok b) e = ap Ok (sym (answer_known a) ∙ ap answer_by e ∙ answer_known b)
 answered_one (Ok a) (Err b) e = absurd (true≢false (sym (refusal_refused b) ∙ ap refused (sym e) ∙ answer_taken a))
 answered_one (Err a) (Ok b) e = absurd (true≢false (sym (refusal_refused a) ∙ ap refused e ∙ answer_taken b))
-answered_one (Err a) (Err b) e = ap Err (sym (refusal_known a) ∙ ap refusal_by e ∙ refusal_known b)
+answered_one (Err a) (Err b) e = ap Err (refusal_one a b e)
 
 pub done_one : (r r' : Result Unit Refusal) → done r ≡ done r' → r ≡ r'
 done_one (Ok a) (Ok b) e = refl
 done_one (Ok a) (Err b) e = absurd (true≢false (sym (refusal_refused b) ∙ ap refused (sym e)))
 done_one (Err a) (Ok b) e = absurd (true≢false (sym (refusal_refused a) ∙ ap refused e))
-done_one (Err a) (Err b) e = ap Err (sym (refusal_known a) ∙ ap refusal_by e ∙ refusal_known b)
+done_one (Err a) (Err b) e = ap Err (refusal_one a b e)

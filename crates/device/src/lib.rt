@@ -6,7 +6,7 @@ ghost use Rattle.device.specs.Device.{is_suite, is_permission, is_domain, width,
 ghost use Rattle.device.specs.Cells.{offered, unconditional, highest};
 ghost use Rattle.device.specs.UserAnswers.{answer_no, answer_of};
 ghost use Rattle.device.specs.Empty.{undecided, free, idle};
-ghost use Rattle.device.specs.Answers.{plain, answering, refusing, done, answered};
+ghost use Rattle.device.specs.Answers.{plain, refused, answering, refusing, done, answered};
 
 // 000's three sets (3.1), kept apart: a suite's number, 0 for no suite, as in the stored bytes; a permission's; a domain's.
 #[derive(Clone, Copy, PartialEq, Eq)]
@@ -292,10 +292,19 @@ impl Session {
 }
 
 impl Response {
+    const FIRST_REFUSAL: u8 = 16;
+
     fn plain(number: u8) -> Response
         ensures { result ≡ plain number }
     {
         Response { number, detail: 0 }
+    }
+
+    // For a caller that has the response alone, as it stands in a run's output.
+    pub fn refused(self) -> bool
+        ensures { result ≡ refused self }
+    {
+        Response::FIRST_REFUSAL <= self.number
     }
 }
 

@@ -121,6 +121,7 @@ fn put_fields(bytes: &mut [u8; EVENT_SIZE], f: Fields)
 }
 
 // The event of a record; `Unreadable`, which is refusal 18, for every other list of bytes.
+#[tactic(auto, using(crate::proofs::Laws::read_other))]
 pub fn read_event(bytes: &[u8]) -> Event
     ensures { reading result ≡ read_call bytes.now }
 {

@@ -1,16 +1,19 @@
 -- Demand 1, from the contracts of the calls alone: a refusal, a response of 16 or more, leaves every lent byte as it was; and two
 -- outcomes that fit a contract are equal. The bytes of a lent slice are below 256, as the toolchain has it. Assumes nothing.
 use mathlib.Core.Path.{◌≡◌, refl, ap, sym, ◌∙◌}
-use mathlib.Core.Bool.{true, not, false≢true}
+use mathlib.Core.Bool.{true, not, false≢true, true≢false}
 use mathlib.Core.List.{List}
 use Prim.Native.Nat.{ℕ, ◌<◌}
 use lib.ListN.{get_or}
+use Rattle.std.specs.Prelude.{Result, Ok, Err}
+use Rattle.device.specs.declared.Refusal.{Refusal}
 use Rattle.device.specs.declared.Response.{Response}
+use Rattle.device.proofs.Responses.{refusal_refused, refusal_one}
 use Rattle.model.specs.Policy.{fixed_by}
 use Rattle.model.specs.State.{read_state, write_state}
 use Rattle.model.specs.Events.{read_event}
 use Rattle.device.specs.Answers.{refused}
-use Rattle.model.specs.Calls.{Called, Ran, leaving, check_call, step_call, sizes_fit, run_call, counted}
+use Rattle.model.specs.Calls.{Called, Ran, leaving, check_call, step_call, sizes_fit, run_call, counted, ran}
 use Rattle.model.proofs.Tests.{cases}
 use Rattle.model.proofs.Runs.{refused_leaves}
 use Rattle.model.proofs.Calls.{one_outcome, passed}
@@ -50,6 +53,13 @@ run_leaves policy b events out =
     cases (RunLeaves b out) (refused (check_call policy b)) (λ _. record { kept = λ _. (refl, refl, refl) })
     (λ _. cases (RunLeaves b out) (not (sizes_fit events out)) (λ _. record { kept = λ _. (refl, refl, refl) })
     (λ _. record { kept = λ h. absurd (false≢true h) }))
+
+-- what a run answers, its count or its refusal, is known by its response and its count
+pub ran_one : (r r' : Result ℕ Refusal) (exit out exit' out' : List ℕ) → ran r exit out ≡ ran r' exit' out' → r ≡ r'
+ran_one (Ok m) (Ok n) _ _ _ _ e = ap (λ c. Ok c.count) e
+ran_one (Ok m) (Err b) _ _ _ _ e = absurd (true≢false (sym (refusal_refused b) ∙ ap (λ c. refused c.response) (sym e)))
+ran_one (Err a) (Ok n) _ _ _ _ e = absurd (true≢false (sym (refusal_refused a) ∙ ap (λ c. refused c.response) e))
+ran_one (Err a) (Err b) _ _ _ _ e = ap Err (refusal_one a b (ap (λ c. c.response) e))
 
 module _ (policy entry events lent : List ℕ) {r : Response} {count : ℕ} {exit out : List ℕ}
     (called : counted r count exit out ≡ run_call policy entry events lent) where

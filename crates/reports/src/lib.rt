@@ -1,19 +1,19 @@
 // The report of a run: the answer to each event, from a new state under a policy, as text; and printed, for two files.
 #![tactic(auto)]
 
-ghost use Rattle.std.specs.Prelude.{IfOk, ◌≡◌, ◌++◌, ◌+◌, ◌*◌, ◌<◌, ◌≤◌, length};
+ghost use Rattle.std.specs.Prelude.{IfOk, ◌≡◌, [], ◌++◌, ◌+◌, ◌*◌, ◌<◌, ◌≤◌, length};
 ghost use Rattle.device.specs.Answers.{refusing};
 ghost use Rattle.model.specs.Calls.{answer_size};
 ghost use Rattle.reports.specs.Text.{ascii, line, lines, closing, report_text};
 ghost use Rattle.reports.specs.Text.{most_events, made, text_call};
 ghost use Rattle.reports.specs.Steps.{room_for, TextOfFiles, Printed, Wrote};
 
-use arrayvec::{ArrayString, ArrayVec};
+use arrayvec::ArrayString;
 use device::{Refusal, Response};
 use monitor::ANSWER_SIZE;
+use std::fs;
 use std::io::{Read, Write};
 use std::rt::Files;
-use std::{fs, io};
 
 const MOST_EVENTS: usize = 2000;
 
@@ -63,28 +63,27 @@ fn closing(word: &str, number: usize) -> Line
     closing
 }
 
-// The lines of the events that are counted, and the last line, which has the count.
+// The lines of the events that are counted, and the last line, which has the count. An empty text is lent, here and below, and
+// not made: a value of its size would be copied at each return.
 #[tactic(auto, using(crate::proofs::Texts::counted_pairs), unfolding(crate::specs::Text::lines, crate::specs::Text::ascii))]
-fn listing(count: usize, answers: &[u8]) -> Text
-    requires { (count ≤ most_events) × (answer_size * count ≤ length answers.now) }
-    ensures { result.bytes ≡ lines count answers.now ++ closing (ascii "end ") count }
+fn listing(text: &mut Text, count: usize, answers: &[u8])
+    requires empty { text.old.bytes ≡ [] }
+    requires counted { (count ≤ most_events) × (answer_size * count ≤ length answers.now) }
+    ensures { text.new.bytes ≡ lines count answers.now ++ closing (ascii "end ") count }
 {
-    let mut text = Text::new();
     let (answers, _) = answers[..ANSWER_SIZE * count].as_chunks::<ANSWER_SIZE>();
     for (index, [number, detail]) in answers.iter().enumerate() {
         text.push_str(&line(index, *number, *detail));
     }
     text.push_str(&closing("end ", count));
-    text
 }
 
 #[tactic(auto, unfolding(crate::specs::Text::ascii))]
-fn refused(refusal: Refusal) -> Text
-    ensures { result.bytes ≡ closing (ascii "refused ") (refusing refusal).number }
+fn refused(text: &mut Text, refusal: Refusal)
+    requires { text.old.bytes ≡ [] }
+    ensures { text.new.bytes ≡ closing (ascii "refused ") (refusing refusal).number }
 {
-    let mut text = Text::new();
     text.push_str(&closing("refused ", Response::from(refusal).number as usize));
-    text
 }
 
 // How many bytes of answers the events are lent: none where they are too many, so that the run refuses them.
@@ -99,15 +98,16 @@ fn room_for(count: usize) -> usize
     ANSWER_SIZE * count
 }
 
-fn report(policy: &[u8], events: &[u8]) -> Text
-    ensures { result.bytes ≡ report_text policy.now events.now }
+fn report(text: &mut Text, policy: &[u8], events: &[u8])
+    requires { text.old.bytes ≡ [] }
+    ensures { text.new.bytes ≡ report_text policy.now events.now }
 {
     let mut answers = [0u8; ANSWER_SIZE * MOST_EVENTS];
     let answers = &mut answers[..room_for(events.len() / events::EVENT_SIZE)];
     let mut state = [0u8; store::STATE_SIZE];
     match monitor::run(policy, &mut state, events, answers) {
-        Ok(count) => listing(count, answers),
-        Err(refusal) => refused(refusal),
+        Ok(count) => listing(text, count, answers),
+        Err(refusal) => refused(text, refusal),
     }
 }
 
@@ -120,7 +120,8 @@ pub fn text(policy: &[u8], events: &[u8], lent: &mut [u8]) -> usize
     if lent.len() < TEXT_SIZE {
         return 0;
     }
-    let text = report(policy, events);
+    let mut text = Text::new();
+    report(&mut text, policy, events);
     let size = text.len();
     lent[..size].copy_from_slice(text.as_bytes());
     size
@@ -133,22 +134,42 @@ fn open<R: Files>(rt: &R, path: &[u8]) -> Option<R::File> {
     fs::open(rt, str::from_utf8(path).ok()?).ok()
 }
 
-// What the file has, as far as there is room for it: nothing where it does not open, and what came before a read that fails.
-fn read_file<R: Files, const N: usize>(rt: &R, path: &[u8]) -> ArrayVec<u8, N> {
-    let mut bytes = ArrayVec::new();
-    if let Some(file) = open(rt, path) {
-        let _ = io::copy(&mut file.take(N as u64), &mut bytes);
+fn read_full<F: Read>(file: &mut F, bytes: &mut [u8]) -> usize
+    ensures { result ≤ length bytes.new }
+{
+    let mut size: usize = 0;
+    while size < bytes.len() {
+        match file.read(&mut bytes[size..]) {
+            Ok(0) => break,
+            Ok(n) => size += n,
+            Err(_) => break,
+        }
     }
-    bytes
+    size
+}
+
+// What the file has, as far as there is room for it: nothing where it does not open, and what came before a read that fails. Each
+// read is lent all the room that is left: how much a file gives may hang on how much it is asked for.
+fn read_file<'a, R: Files>(rt: &R, path: &[u8], room: &'a mut [u8]) -> &'a [u8]
+    ensures { length result.now ≤ length room.old }
+{
+    let size = match open(rt, path) {
+        Some(mut file) => read_full(&mut file, room),
+        None => 0,
+    };
+    &room[..size]
 }
 
 // A longer file has the same text as the part of it that is read.
-fn report_of_files<R: Files>(rt: &R, policy_path: &[u8], events_path: &[u8]) -> Text
-    ensures { TextOfFiles result.bytes }
+fn report_of_files<R: Files>(text: &mut Text, rt: &R, policy_path: &[u8], events_path: &[u8])
+    requires { text.old.bytes ≡ [] }
+    ensures { TextOfFiles text.new.bytes }
 {
-    let policy: ArrayVec<u8, POLICY_READ> = read_file(rt, policy_path);
-    let events: ArrayVec<u8, EVENTS_READ> = read_file(rt, events_path);
-    report(&policy, &events)
+    let mut policy = [0u8; POLICY_READ];
+    let policy = read_file(rt, policy_path, &mut policy);
+    let mut events = [0u8; EVENTS_READ];
+    let events = read_file(rt, events_path, &mut events);
+    report(text, policy, events);
 }
 
 // Prints the report on two files, of which one that does not open has length 0, and tells how long it is. The only error is a
@@ -163,7 +184,8 @@ pub fn print<R: Files, W: Write>(
     ensures printed { IfOk result (λ size. Printed size) }
     ensures wrote { IfOk result (λ size. Wrote (W.contents out.old) (W.contents out.new) size) }
 {
-    let text = report_of_files(rt, policy_path, events_path);
+    let mut text = Text::new();
+    report_of_files(&mut text, rt, policy_path, events_path);
     out.write_all(text.as_bytes())?;
     Ok(text.len())
 }

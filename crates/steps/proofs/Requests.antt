@@ -117,7 +117,7 @@ keep_place s Oneshot g = refl
 keep_place s ForSession g = refl
 keep_place s Blanket g = place_deciding g s.session.suite s.session.suite s.slots
 
-enter_place : (s : State) (u : UserAnswer) (p : Permission) → running_place (enter u p s) ≡ running_place s
+pub enter_place : (s : State) (u : UserAnswer) (p : Permission) → running_place (enter u p s) ≡ running_place s
 enter_place s Unasked p = refl
 enter_place s (Allow m) p = keep_place s m (grant p)
 enter_place s (Deny m) p = keep_place s m (revoke p)

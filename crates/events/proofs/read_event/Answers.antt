@@ -1,12 +1,9 @@
-use Rattle.std.proofs.Common.{arith, sym, ap, ◌∙◌}
+use Rattle.std.proofs.Common.{arith, ap, ◌∙◌}
 use Rattle.model.specs.Events.{fields_at}
 use Rattle.model.specs.Calls.{reading}
 use Rattle.events.specs.Fields.{same_fields}
-use Rattle.events.proofs.Laws.{read_numbers, read_other}
+use Rattle.events.proofs.Laws.{read_numbers}
 use Rattle.events.proofs.read_event.Goals as goal
-
-pub returns-in_default : goal.returns-in_default
-returns-in_default c = ap reading (sym (read_other c.args.bytes.now c.in_default.ensures.cases))
 
 pub returns-then-not-good : goal.returns-then-not-good
 unfolding same_fields

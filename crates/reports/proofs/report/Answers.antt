@@ -8,7 +8,7 @@ use Rattle.reports.proofs.report.Goals as goal
 pub listing-requires : goal.listing-requires
 listing-requires c =
     let (few, room) = lent_fits c.args.policy.now c.args.events.now c.room_for.ensures.value c.in-Ok.ensures in
-    (few, omega arith)
+    record { empty = c.requires; counted = (few, omega arith) }
 
 pub returns-in-Ok : goal.returns-in-Ok
 unfolding ascii
